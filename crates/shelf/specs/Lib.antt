@@ -1,0 +1,4 @@
+pub mod Shelves
+pub mod Answers
+pub mod Margins
+pub mod Joined
