@@ -1,0 +1,13 @@
+pub mod Onto
+pub mod Passing
+pub mod Rows
+pub mod Steps
+pub mod Filling
+pub mod Laws
+pub mod Each
+pub mod Back
+pub mod Parting
+pub mod Counts
+pub mod Overlay
+pub mod Settable
+pub mod Lawfully

@@ -1,0 +1,6 @@
+pub mod Words
+pub mod Runs
+pub mod Lines
+pub mod Filled
+pub mod Rows
+pub mod Contents
