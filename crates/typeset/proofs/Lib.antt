@@ -11,3 +11,5 @@ pub mod Counts
 pub mod Overlay
 pub mod Settable
 pub mod Lawfully
+pub mod Survey
+pub mod Tally

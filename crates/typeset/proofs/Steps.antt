@@ -12,6 +12,7 @@ use Rattle.std.proofs.shelf.Ways.{tells}
 use lib.Dec.{ltb, eqb}
 use Rattle.bytes.specs.Classes.{white}
 use Rattle.letters.specs.Letters.{letters-from, sound}
+use Rattle.letters.specs.declared.Kind.{Kind}
 use Rattle.letters.specs.declared.Kind.the-variants.{Text}
 use Rattle.letters.proofs.Steps.{letters-none}
 use Rattle.typeset.specs.Words.{closed, parted, words, words-from, inked, Found}
@@ -112,7 +113,11 @@ pub and-shift : (a b c : Bool) → a && (b && c) ≡ (a && b) && c
 and-shift true b c = refl
 and-shift false b c = refl
 
-pub sound-more : (s all : List ℕ) (i c next : ℕ) (ok : Bool) → letters-from Text s i ≡ c ∷ letters-from Text s next → sound all ≡ (ok && sound (letters-from Text s i)) → sound all ≡ ((ok && not (eqb c 0)) && sound (letters-from Text s next))
-sound-more s all i c next ok step e =
+pub and-true : (x y : Bool) → y ≡ true → (x && y) ≡ x
+and-true true y e = e
+and-true false y e = refl
+
+pub sound-more : (kind : Kind) (s all : List ℕ) (i c next : ℕ) (ok : Bool) → letters-from kind s i ≡ c ∷ letters-from kind s next → sound all ≡ (ok && sound (letters-from kind s i)) → sound all ≡ ((ok && not (eqb c 0)) && sound (letters-from kind s next))
+sound-more kind s all i c next ok step e =
     let same : ltb 0 c ≡ not (eqb c 0) = grind (arith, tells) in
-    e ∙ ap (λ t. ok && sound t) step ∙ ap (λ b. ok && (b && sound (letters-from Text s next))) same ∙ and-shift ok (not (eqb c 0)) (sound (letters-from Text s next))
+    e ∙ ap (λ t. ok && sound t) step ∙ ap (λ b. ok && (b && sound (letters-from kind s next))) same ∙ and-shift ok (not (eqb c 0)) (sound (letters-from kind s next))

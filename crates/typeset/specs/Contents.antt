@@ -4,7 +4,7 @@ use mathlib.Core.Bool.{Bool, true, _&&_}
 use mathlib.Core.List.{List, [], map}
 use Prim.Native.Nat.{ℕ, _≤_, _<_, min, max}
 use lib.Dec.{leb}
-use lib.ListN.{length, getD}
+use lib.ListN.{length, getD, drop}
 use Rattle.std.specs.Iters.{counting}
 use Rattle.letters.specs.Letters.{letters, sound}
 use Rattle.letters.specs.Spelling.{Spells}
@@ -93,3 +93,17 @@ pub record Shows-block (m : Meaning) (k : ℕ) (bytes : List ℕ) : Type 0 where
   -- both widths are the longest line
   pub narrow : m .minimum k ≡ measured (longest (rows (letters Block bytes)))
   pub wide : m .maximum k ≡ m .minimum k
+
+-- the content that begins at the byte start has line r of the whole content as its first line, at width w
+pub record Starts (kind : Kind) (s : List ℕ) (w r start : ℕ) : Type 0 where
+  pub inside : start ≤ length s
+  pub small : content kind (drop start s) .least ≤ w
+  pub same : getD (content kind (drop start s) .lines-at w) 0 [] ≡ getD (content kind s .lines-at w) r []
+
+-- what one reading of the bytes tells: whether all are characters, the widths, the height at w, and where line r begins
+pub record Surveyed (kind : Kind) (s : List ℕ) (w r : ℕ) (good : Bool) (least most high start : ℕ) : Type 0 where
+  pub good-is : good ≡ content kind s .good
+  pub least-is : least ≡ measured (content kind s .least)
+  pub most-is : most ≡ measured (content kind s .most)
+  pub high-is : high ≡ min (length (content kind s .lines-at w)) largest
+  pub start-is : content kind s .least ≤ w → r < length (content kind s .lines-at w) → Starts kind s w r start
