@@ -6,7 +6,7 @@ use mathlib.Core.Logic.{⊎-elim}
 use Prim.Native.Nat.{ℕ, _+_, _-_, _≤_, _<_, min, max}
 use native.Mathlib.Omega.{arith}
 use lib.Dec.{leb, lit≤}
-use lib.ListN.{length, getD, replicate, length-append, length-replicate, getD-replicate}
+use lib.ListN.{length, getD, drop, replicate, length-append, length-replicate, getD-replicate}
 use Rattle.std.proofs.shelf.Counted.{fill-by-all}
 use Rattle.std.proofs.shelf.Elements.{length-each, each-getD}
 use Rattle.std.proofs.shelf.Lists.{length-map, getD-append-left, getD-append-right, getD-default, getD-past}
@@ -21,7 +21,7 @@ use Rattle.typeset.specs.Words.{words, longest}
 use Rattle.typeset.specs.Lines.{spaced, lines, blank-filled}
 use Rattle.typeset.specs.Filled.{Filled}
 use Rattle.typeset.specs.Rows.{rows}
-use Rattle.typeset.specs.Contents.{Content, content, measured, typeset, Present, words-read, Shows-text, Shows-block}
+use Rattle.typeset.specs.Contents.{Content, content, measured, typeset, Present, words-read, Shows-text, Shows-block, Starts}
 use Rattle.typeset.proofs.Laws.{nothing-lost, only-so}
 use Rattle.typeset.proofs.Back.{read-line}
 use Rattle.typeset.proofs.Parting.{words-parts}
@@ -69,7 +69,7 @@ good-sound Text bs = refl
 good-sound Block bs = refl
 
 -- the contents that stand in the bytes
-abbrev shelved : Kind → (ℕ → Bool) → (ℕ → List ℕ) → Meaning
+abbrev pub shelved : Kind → (ℕ → Bool) → (ℕ → List ℕ) → Meaning
 shelved kind inside bytes = typeset inside (λ k. content kind (bytes k))
 
 module _ (inside : ℕ → Bool) (bytes : ℕ → List ℕ) where
@@ -138,3 +138,10 @@ module _ (inside : ℕ → Bool) (bytes : ℕ → List ℕ) where
           narrow = refl;
           wide = refl;
         }
+
+  -- the first line from where line r begins, filled with blanks, is line r
+  pub line-shown : (kind : Kind) (k w r n start : ℕ) (s out : List ℕ) → s ≡ bytes k → n ≡ w → content kind s .least ≤ w → Starts kind s w r start → out ≡ blank-filled n (getD (content kind (drop start s) .lines-at n) 0 []) → out ≡ chars (shelved kind inside bytes) k w r
+  line-shown kind k w r n start s out es en small at e =
+      let fits = settable kind (bytes k) .fits w r (subst (λ b. content kind b .least ≤ w) es small) in
+      e ∙ ap (λ m. blank-filled m (getD (content kind (drop start s) .lines-at m) 0 [])) en ∙ ap (blank-filled w) (at .same) ∙
+      ap (λ b. blank-filled w (getD (content kind b .lines-at w) r [])) es ∙ line-chars inside (λ j. content kind (bytes j)) k w r fits
