@@ -140,8 +140,9 @@ module _ (inside : ℕ → Bool) (bytes : ℕ → List ℕ) where
         }
 
   -- the first line from where line r begins, filled with blanks, is line r
-  pub line-shown : (kind : Kind) (k w r n start : ℕ) (s out : List ℕ) → s ≡ bytes k → n ≡ w → content kind s .least ≤ w → Starts kind s w r start → out ≡ blank-filled n (getD (content kind (drop start s) .lines-at n) 0 []) → out ≡ chars (shelved kind inside bytes) k w r
+  pub line-shown : (kind : Kind) (k w r n start : ℕ) (s out : List ℕ) → s ≡ bytes k → n ≡ w → content kind (bytes k) .least ≤ w → Starts kind (bytes k) w r start → out ≡ blank-filled n (getD (content kind (drop start s) .lines-at n) 0 []) → out ≡ chars (shelved kind inside bytes) k w r
   line-shown kind k w r n start s out es en small at e =
-      let fits = settable kind (bytes k) .fits w r (subst (λ b. content kind b .least ≤ w) es small) in
-      e ∙ ap (λ m. blank-filled m (getD (content kind (drop start s) .lines-at m) 0 [])) en ∙ ap (blank-filled w) (at .same) ∙
-      ap (λ b. blank-filled w (getD (content kind b .lines-at w) r [])) es ∙ line-chars inside (λ j. content kind (bytes j)) k w r fits
+      let fits = settable kind (bytes k) .fits w r small in
+      e ∙ ap (λ b. blank-filled n (getD (content kind (drop start b) .lines-at n) 0 [])) es ∙
+      ap (λ m. blank-filled m (getD (content kind (drop start (bytes k)) .lines-at m) 0 [])) en ∙ ap (blank-filled w) (at .same) ∙
+      line-chars inside (λ j. content kind (bytes j)) k w r fits
