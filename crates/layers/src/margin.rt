@@ -53,7 +53,14 @@ pub(crate) fn height_in<S: Shelf>(below: &S, margin: Margin, k: u16, w: u16) -> 
     Ok(h.saturating_add(both))
 }
 
-pub(crate) fn line_in<S: Shelf>(below: &S, margin: Margin, k: u16, w: u16, r: u16, out: &mut [u8]) -> Result<(), Fault>
+pub(crate) fn line_in<S: Shelf>(
+    below: &S,
+    margin: Margin,
+    k: u16,
+    w: u16,
+    r: u16,
+    out: &mut [u8],
+) -> Result<(), Fault>
     ensures answer { λ a. ⌜ a ≡ line-answer (around margin (meaning (now (below .entry)))) k w r (length (now (out .entry))) ⌝ }
     ensures after { λ a. ⌜ now (out .exit) ≡ written (around margin (meaning (now (below .entry)))) k w r a (now (out .entry)) ⌝ }
 {

@@ -1,0 +1,4 @@
+pub mod Lines
+pub mod Queries
+pub mod Margins
+pub mod Joined
