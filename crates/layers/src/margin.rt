@@ -1,12 +1,13 @@
 // A margin around the contents of a shelf, of any size and of any three characters.
 ghost use mathlib.Core.Path.{_≡_};
-ghost use lib.ListN.{length, replicate};
+ghost use lib.ListN.{length};
 ghost use Rattle.shelf.specs.Answers.{widths-answer, height-answer, line-answer, written};
 ghost use Rattle.layers.specs.Margin.{around, inner-answer};
 use fault::Fault;
 use fault::Reason;
 use shelf::Shelf;
 use shelf::WIDEST;
+use shelf::spread;
 
 /// How many places the margin has on each side, and what they show.
 #[derive(Clone, Copy)]
@@ -15,13 +16,6 @@ pub(crate) struct Margin {
     pub(crate) corner: u8,
     pub(crate) flat: u8,
     pub(crate) side: u8,
-}
-
-// Writes v at each place.
-fn spread(out: &mut [u8], v: u8)
-    ensures { λ _. ⌜ now (out .exit) ≡ replicate (length (now (out .entry))) v ⌝ }
-{
-    out.fill(v);
 }
 
 pub(crate) fn widths_in<S: Shelf>(below: &S, margin: Margin, k: u16) -> Result<(u16, u16), Fault>

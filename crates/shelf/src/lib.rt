@@ -1,6 +1,6 @@
 // The one interface through which contents are met: how wide and tall each is, and what its lines show.
 ghost use mathlib.Core.Path.{_≡_};
-ghost use lib.ListN.{length};
+ghost use lib.ListN.{length, replicate};
 ghost use Rattle.shelf.specs.Shelves.{Meaning, Lawful};
 ghost use Rattle.shelf.specs.Answers.{widths-answer, height-answer, line-answer, written};
 use fault::Fault;
@@ -28,4 +28,11 @@ pub trait Shelf {
     fn line(&self, k: u16, w: u16, r: u16, out: &mut [u8]) -> Result<(), Fault>
         ensures answer { λ a. ⌜ a ≡ line-answer (meaning (now (self .entry))) k w r (length (now (out .entry))) ⌝ }
         ensures after { λ a. ⌜ now (out .exit) ≡ written (meaning (now (self .entry))) k w r a (now (out .entry)) ⌝ };
+}
+
+/// Writes v at each place.
+pub fn spread(out: &mut [u8], v: u8)
+    ensures { λ _. ⌜ now (out .exit) ≡ replicate (length (now (out .entry))) v ⌝ }
+{
+    out.fill(v);
 }

@@ -6,4 +6,4 @@ mod scan;
 mod survey;
 
 pub mod place;
-//pub mod shelves;
+pub mod shelves;

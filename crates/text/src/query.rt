@@ -3,7 +3,7 @@ ghost use mathlib.Core.Path.{_≡_};
 ghost use mathlib.Core.Bool.{true, false};
 ghost use mathlib.Core.List.{[]};
 ghost use Prim.Native.Nat.{_≤_};
-ghost use lib.ListN.{length, getD, drop, replicate};
+ghost use lib.ListN.{length, getD, drop};
 ghost use Rattle.std.specs.Options.{Cases};
 ghost use Rattle.list.specs.Held.{items};
 ghost use Rattle.shelf.specs.Answers.{widths-answer, height-answer, line-answer, written};
@@ -22,6 +22,7 @@ use fault::Reason;
 use letters::Kind;
 use list::List;
 use shelf::WIDEST;
+use shelf::spread;
 
 fn survey(kind: Kind, s: &[u8], w: u16, r: u16) -> Survey
     ensures { λ v. ⌜ Surveyed kind (now (s .entry)) w r (v .good) (v .least) (v .most) (v .high) (v .start) ⌝ }
@@ -30,13 +31,6 @@ fn survey(kind: Kind, s: &[u8], w: u16, r: u16) -> Survey
         Kind::Text => survey_text(s, w, r),
         Kind::Block => survey_block(s, w, r),
     }
-}
-
-// Writes v at each place.
-fn spread(out: &mut [u8], v: u8)
-    ensures { λ _. ⌜ now (out .exit) ≡ replicate (length (now (out .entry))) v ⌝ }
-{
-    out.fill(v);
 }
 
 // Shows the first line of the content that begins at a byte.
