@@ -23,6 +23,11 @@ abbrev pub plain : Kind → ℕ → Bool
 plain Text b = white b || (from-to 33 126 b && unmarked b)
 plain Block b = eqb b 10 || (from-to 32 126 b && unmarked b)
 
+-- a byte that may stand in the content at all, as itself or in a reference
+abbrev pub allowed : Kind → ℕ → Bool
+allowed Text b = white b || from-to 33 126 b
+allowed Block b = eqb b 10 || from-to 32 126 b
+
 abbrev pub begins : List ℕ → List ℕ → Bool
 begins p bs = sameBytes p (take (length p) bs)
 

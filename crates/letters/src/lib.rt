@@ -1,12 +1,15 @@
 // The characters that the bytes of a content stand for.
 ghost use mathlib.Core.Path.{_≡_};
-ghost use Prim.Native.Nat.{_≤_};
-ghost use lib.ListN.{length};
+ghost use Prim.Native.Nat.{_≤_, _<_};
+ghost use lib.ListN.{length, drop};
 ghost use Rattle.bytes.specs.Classes.{white};
 ghost use Rattle.std.specs.Options.{Cases};
-ghost use Rattle.letters.specs.Letters.{begins, plain, letter-of, letter-at, Stepped};
+ghost use Rattle.letters.specs.Letters.{begins, plain, allowed, letter-of, letter-at, Stepped};
+ghost use Rattle.letters.specs.Verdicts.{ends-badly, reason-of, verdict, Judged};
 use bytes::Class;
 use bytes::class_of;
+use fault::Fault;
+use fault::Reason;
 
 /// The two kinds of content that a file holds: words, or lines as they stand.
 #[derive(Clone, Copy)]
@@ -89,4 +92,63 @@ pub fn next_letter(kind: Kind, s: &[u8], at: usize) -> Option<Letter>
         glyph,
         next: at + 1 + more,
     })
+}
+
+// Whether a byte may stand in a content at all.
+fn is_allowed(kind: Kind, b: u8) -> bool
+    ensures { λ r. ⌜ r ≡ allowed kind b ⌝ }
+{
+    match class_of(b) {
+        Class::White => match kind {
+            Kind::Text => true,
+            Kind::Block => b == b'\n' || b == b' ',
+        },
+        Class::Forbidden => false,
+        _ => true,
+    }
+}
+
+// Whether small letters from a byte on end at a byte that is not allowed.
+fn is_badly_ended(kind: Kind, s: &[u8], at: usize) -> bool
+    ensures { λ r. ⌜ r ≡ ends-badly kind (drop at (now (s .entry))) ⌝ }
+{
+    let mut i = at;
+    while i < s.len() {
+        let b = s[i];
+        if b < b'a' || b > b'z' {
+            return !is_allowed(kind, b);
+        }
+        i += 1;
+    }
+    false
+}
+
+// Why no character begins at a byte.
+fn reason_at(kind: Kind, s: &[u8], at: usize) -> Reason
+    requires { ⌜ at < length (now s) ⌝ }
+    ensures { λ r. ⌜ r ≡ reason-of kind (drop at (now (s .entry))) ⌝ }
+{
+    let b = s[at];
+    if b == b'<' {
+        return Reason::Malformed;
+    }
+    if b == b'&' && !is_badly_ended(kind, s, at + 1) {
+        return Reason::Malformed;
+    }
+    Reason::ByteNotAllowed
+}
+
+/// Whether all bytes are those of a content, or the first that is not.
+pub fn verify(kind: Kind, s: &[u8]) -> Result<(), Fault>
+    ensures value { λ r. ⌜ r ≡ verdict kind (now (s .entry)) ⌝ }
+    ensures judged { λ r. ⌜ Judged kind (now (s .entry)) r ⌝ }
+{
+    let mut at = 0;
+    while let Some(letter) = next_letter(kind, s, at) {
+        if letter.glyph == 0 {
+            return Err(Fault::at(reason_at(kind, s, at), at));
+        }
+        at = letter.next;
+    }
+    Ok(())
 }
