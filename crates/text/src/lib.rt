@@ -7,3 +7,4 @@ mod survey;
 
 pub mod place;
 pub mod shelves;
+pub mod words;
