@@ -1,11 +1,16 @@
 // The three queries, for texts and blocks alike.
 ghost use mathlib.Core.Path.{_≡_};
-ghost use mathlib.Core.Bool.{true, false};
+ghost use mathlib.Core.Bool.{true, false, cond, _||_};
 ghost use mathlib.Core.List.{[]};
 ghost use Prim.Native.Nat.{_≤_};
+ghost use lib.Dec.{ltb};
 ghost use lib.ListN.{length, getD, drop};
 ghost use Rattle.std.specs.Options.{Cases};
+ghost use Rattle.std.specs.declared.result.Result.the-variants.{Ok, Err};
+ghost use Rattle.fault.specs.Numbers.{fault};
+ghost use Rattle.fault.specs.declared.Reason.the-variants.{UnfitWidth};
 ghost use Rattle.list.specs.Held.{items};
+ghost use Rattle.shelf.specs.Shelves.{widest};
 ghost use Rattle.shelf.specs.Answers.{widths-answer, height-answer, line-answer, written};
 ghost use Rattle.typeset.specs.Lines.{blank-filled};
 ghost use Rattle.typeset.specs.Contents.{content, Surveyed};
@@ -83,16 +88,23 @@ pub(crate) fn widths_of(kind: Kind, file: &[u8], places: &List<Place>, k: u16) -
     Ok((told.least, told.most))
 }
 
+// The height that was told, if the content can be set at width w.
+fn height_told(told: Survey, w: u16) -> Result<u16, Fault>
+    ensures { λ r. ⌜ r ≡ cond (ltb w (told .least) || ltb widest w) (Err (fault UnfitWidth 0)) (Ok (told .high)) ⌝ }
+{
+    if w < told.least || w > WIDEST {
+        return Err(Fault::new(Reason::UnfitWidth));
+    }
+    Ok(told.high)
+}
+
 pub(crate) fn height_of(kind: Kind, file: &[u8], places: &List<Place>, k: u16, w: u16) -> Result<u16, Fault>
     ensures { λ a. ⌜ a ≡ height-answer (contents kind (now (file .entry)) (items (now (places .entry)))) k w ⌝ }
 {
     let Some((_, told)) = read(kind, file, places, k, w, 0) else {
         return Err(Fault::new(Reason::NotOnShelf));
     };
-    if w < told.least || w > WIDEST {
-        return Err(Fault::new(Reason::UnfitWidth));
-    }
-    Ok(told.high)
+    height_told(told, w)
 }
 
 pub(crate) fn line_of(kind: Kind, file: &[u8], places: &List<Place>, k: u16, w: u16, r: u16, out: &mut [u8]) -> Result<(), Fault>
@@ -102,10 +114,8 @@ pub(crate) fn line_of(kind: Kind, file: &[u8], places: &List<Place>, k: u16, w: 
     let Some((bytes, told)) = read(kind, file, places, k, w, r) else {
         return Err(Fault::new(Reason::NotOnShelf));
     };
-    if w < told.least || w > WIDEST {
-        return Err(Fault::new(Reason::UnfitWidth));
-    }
-    if r >= told.high {
+    let high = height_told(told, w)?;
+    if r >= high {
         return Err(Fault::new(Reason::PastLastLine));
     }
     if out.len() != w as usize {
