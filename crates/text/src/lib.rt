@@ -1,10 +1,9 @@
 // Shelves of texts and of blocks that stand in a file, which they read and do not copy.
 mod fill;
+pub mod place;
 mod query;
 mod rows;
 mod scan;
-mod survey;
-
-pub mod place;
 pub mod shelves;
+mod survey;
 pub mod words;

@@ -68,7 +68,14 @@ fn stretch<'f>(file: &'f [u8], places: &List<Place>, k: u16) -> Option<&'f [u8]>
 }
 
 // The bytes of content k and what one reading of them tells, if it is on the shelf.
-fn read<'f>(kind: Kind, file: &'f [u8], places: &List<Place>, k: u16, w: u16, r: u16) -> Option<(&'f [u8], Survey)>
+fn read<'f>(
+    kind: Kind,
+    file: &'f [u8],
+    places: &List<Place>,
+    k: u16,
+    w: u16,
+    r: u16,
+) -> Option<(&'f [u8], Survey)>
     ensures { λ x. ⌜ Cases x (contents kind (now (file .entry)) (items (now (places .entry))) .has k ≡ false) (λ y. Read kind (now (file .entry)) (items (now (places .entry))) k w r (now (y .0)) (y .1)) ⌝ }
 {
     let bytes = stretch(file, places, k)?;
@@ -79,7 +86,12 @@ fn read<'f>(kind: Kind, file: &'f [u8], places: &List<Place>, k: u16, w: u16, r:
     Some((bytes, told))
 }
 
-pub(crate) fn widths_of(kind: Kind, file: &[u8], places: &List<Place>, k: u16) -> Result<(u16, u16), Fault>
+pub(crate) fn widths_of(
+    kind: Kind,
+    file: &[u8],
+    places: &List<Place>,
+    k: u16,
+) -> Result<(u16, u16), Fault>
     ensures { λ a. ⌜ a ≡ widths-answer (contents kind (now (file .entry)) (items (now (places .entry)))) k ⌝ }
 {
     let Some((_, told)) = read(kind, file, places, k, 1, 0) else {
@@ -98,7 +110,13 @@ fn height_told(told: Survey, w: u16) -> Result<u16, Fault>
     Ok(told.high)
 }
 
-pub(crate) fn height_of(kind: Kind, file: &[u8], places: &List<Place>, k: u16, w: u16) -> Result<u16, Fault>
+pub(crate) fn height_of(
+    kind: Kind,
+    file: &[u8],
+    places: &List<Place>,
+    k: u16,
+    w: u16,
+) -> Result<u16, Fault>
     ensures { λ a. ⌜ a ≡ height-answer (contents kind (now (file .entry)) (items (now (places .entry)))) k w ⌝ }
 {
     let Some((_, told)) = read(kind, file, places, k, w, 0) else {
@@ -107,7 +125,15 @@ pub(crate) fn height_of(kind: Kind, file: &[u8], places: &List<Place>, k: u16, w
     height_told(told, w)
 }
 
-pub(crate) fn line_of(kind: Kind, file: &[u8], places: &List<Place>, k: u16, w: u16, r: u16, out: &mut [u8]) -> Result<(), Fault>
+pub(crate) fn line_of(
+    kind: Kind,
+    file: &[u8],
+    places: &List<Place>,
+    k: u16,
+    w: u16,
+    r: u16,
+    out: &mut [u8],
+) -> Result<(), Fault>
     ensures answer { λ a. ⌜ a ≡ line-answer (contents kind (now (file .entry)) (items (now (places .entry)))) k w r (length (now (out .entry))) ⌝ }
     ensures after { λ a. ⌜ now (out .exit) ≡ written (contents kind (now (file .entry)) (items (now (places .entry)))) k w r a (now (out .entry)) ⌝ }
 {
