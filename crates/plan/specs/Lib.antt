@@ -1,2 +1,5 @@
 pub mod Taken
 pub mod Blank
+pub mod Stock
+pub mod Steps
+pub mod Done
