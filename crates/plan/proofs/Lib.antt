@@ -1,2 +1,3 @@
 pub mod Spots
 pub mod Stocks
+pub mod Raised

@@ -1,0 +1,4 @@
+pub mod Lists
+pub mod Free
+
+pub mod Standing
