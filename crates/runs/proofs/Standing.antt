@@ -119,7 +119,7 @@ module _ (ts : List Table) (cs : List Cell) (t : ℕ) (b d : Table) (e : nth ts 
 
 -- ---- one cell more, in the current row of a table
 
-module _ (ts : List Table) (cs : List Cell) (t : ℕ) (b : Table) (e : nth ts t ≡ Some b) (j across down : ℕ) (holds : Holds) where
+module _ (ts : List Table) (cs : List Cell) (t : ℕ) (b : Table) (e : nth ts t ≡ Some b) (j across down : ℕ) where
   -- the cell fits, and stands at the lowest free column
   pub record Fitting : Type 0 where
     pub some : 0 < b .begun
@@ -130,7 +130,7 @@ module _ (ts : List Table) (cs : List Cell) (t : ℕ) (b : Table) (e : nth ts t 
     pub clear-is : (i : ℕ) → j ≤ i → i < j + across → free-in cs t (current-row b) i ≡ true
     pub lowest-is : (i : ℕ) → i < j → free-in cs t (current-row b) i ≡ false
 
-  module _ (f : Fitting) (s : Standing ts cs) where
+  module _ (holds : Holds) (f : Fitting) (s : Standing ts cs) where
     abbrev c : Cell
     c = new-cell t b j across down holds
 
