@@ -6,7 +6,7 @@ use mathlib.Core.Logic.{_⊎_, inl, inr, ∥∥₁-elim, ∥∥₁-map}
 use Prim.Native.Nat.{ℕ, _+_, _-_, _≤_, _<_, min, max}
 use native.Mathlib.Omega.{arith}
 use lib.Dec.{leb, ltb, eqb}
-use lib.ListN.{length, set, length-set}
+use lib.ListN.{length, getD, set, length-set}
 use Rattle.std.specs.Finite.{nth}
 use Rattle.std.specs.declared.option.Option.{Option}
 use Rattle.std.specs.declared.option.Option.the-variants.{Some, None}
@@ -19,9 +19,9 @@ use Rattle.fault.specs.declared.Fault.{Fault}
 use Rattle.plan.specs.declared.record.Cell.{Cell}
 use Rattle.plan.specs.declared.record.Table.{Table}
 use Rattle.plan.specs.declared.record.Holds.the-variants.{Content, Inner}
-use Rattle.plan.specs.Blank.{blank-table}
+use Rattle.plan.specs.Blank.{blank-column, blank-table}
 use Rattle.plan.specs.Stock.{Stock, full}
-use Rattle.plan.specs.Steps.{Added, from-to, table-range, span-range, columns-of, current-row, start-tables, row-at, row-tables, width-at, width-tables, spot-to, column-for, new-cell, with-row, with-sizing, with-cell, place-in, place-at, place-lists, nest-in, nest-at, nest-lists}
+use Rattle.plan.specs.Steps.{Added, from-to, table-range, span-range, columns-of, current-row, start-tables, row-at, row-tables, width-at, width-tables, spot-to, column-for, sized, new-cell, with-row, with-sizing, with-cell, place-in, place-at, place-lists, nest-in, nest-at, nest-lists}
 use Rattle.plan.specs.Taken.{spot}
 use Rattle.plan.proofs.Spots.{spot-found}
 use Rattle.runs.specs.Cells.{free-in, by-cells}
@@ -107,6 +107,7 @@ good-row s t (Some b) e g =
       able = record { some = a .some; few = a .few; narrow = a .narrow; in-rows = omega arith; rows = omega (arith, a .rows, ltb-true (b .begun) 64 h) };
       count-is = refl;
       taken-is = refl;
+      columns-are = refl;
       begun-up = omega arith;
       reached-up = omega arith;
     }) g)
@@ -123,6 +124,7 @@ good-width s t j f (Some b) e g =
       able = record { some = a .some; few = a .few; narrow = a .narrow; in-rows = a .in-rows; rows = a .rows };
       count-is = refl;
       taken-is = refl;
+      columns-are = length-set (b .columns) j (sized (getD (b .columns) j blank-column) f);
       begun-up = omega arith;
       reached-up = omega arith;
     }) g)

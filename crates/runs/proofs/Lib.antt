@@ -4,3 +4,5 @@ pub mod Free
 pub mod Standing
 pub mod Nested
 pub mod Good
+pub mod Accepted
+pub mod Grows
