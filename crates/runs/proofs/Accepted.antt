@@ -22,7 +22,7 @@ use Rattle.plan.specs.Stock.{Stock, full, with-new, with-item}
 use Rattle.plan.specs.Steps.{Added, table-range, span-range, columns-of, column-for, start-tables, row-at, row-tables, width-at, width-tables, new-cell, with-row, with-sizing, with-cell, place-in, place-at, place-lists, nest-in, nest-at, nest-lists}
 
 module _ {A : Type 0} where
-  ok-same : (a b : A) → _≡_ {A = Result A Fault} (Ok a) (Ok b) → a ≡ b
+  pub ok-same : (a b : A) → _≡_ {A = Result A Fault} (Ok a) (Ok b) → a ≡ b
   ok-same a b e = cc
 
   err-ok : (f : Fault) (a : A) → _≡_ {A = Result A Fault} (Err f) (Ok a) → ⊥

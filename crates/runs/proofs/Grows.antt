@@ -20,7 +20,7 @@ use Rattle.plan.specs.Steps.{Added, start-tables, row-tables, width-tables, pla
 use Rattle.runs.specs.Cells.{by-cells}
 use Rattle.runs.specs.State.{State}
 use Rattle.runs.specs.Calls.{Call, Start, Row, Place, Nest, Width, Outcome, changed, added, wanted, after-of, next, run}
-use Rattle.runs.proofs.Lists.{nth-below, nth-same, nth-old}
+use Rattle.runs.proofs.Lists.{nth-same, nth-old, nth-set-same, nth-set-other}
 use Rattle.runs.proofs.Accepted.{start-told, row-told, width-told, place-told, nest-told}
 
 -- the cell stands in the same place, and holds the same
@@ -72,18 +72,6 @@ module _ {A : Type 0} (R : A → A → Type 0) where
 
   like-push : ((x : A) → R x x) → (xs : List A) (a : A) → Like R xs (xs ++ a ∷ [])
   like-push same xs a i x e = (x, (nth-old xs a i x e, same x))
-
-  nth-set-same : (xs : List A) (i : ℕ) (a b : A) → nth xs i ≡ Some b → nth (set xs i a) i ≡ Some a
-  nth-set-same [] i a b e = let z : _≡_ {A = ℕ} 0 1 = cc in absurd (omega arith)
-  nth-set-same (x ∷ xs) zero a b e = refl
-  nth-set-same (x ∷ xs) (suc i) a b e = nth-set-same xs i a b e
-
-  nth-set-other : (xs : List A) (t : ℕ) (a : A) (i : ℕ) → (i ≡ t → ⊥) → nth (set xs t a) i ≡ nth xs i
-  nth-set-other [] t a i h = refl
-  nth-set-other (x ∷ xs) zero a zero h = absurd (h refl)
-  nth-set-other (x ∷ xs) zero a (suc i) h = refl
-  nth-set-other (x ∷ xs) (suc t) a zero h = refl
-  nth-set-other (x ∷ xs) (suc t) a (suc i) h = nth-set-other xs t a i (λ e. h (ap suc e))
 
   like-set : ((x : A) → R x x) → (xs : List A) (t : ℕ) (b d : A) → nth xs t ≡ Some b → R b d → Like R xs (set xs t d)
   like-set same xs t b d there r i x e =

@@ -6,3 +6,6 @@ pub mod Nested
 pub mod Good
 pub mod Accepted
 pub mod Grows
+pub mod Planned
+pub mod History
+pub mod Sized

@@ -50,3 +50,15 @@ module _ {A : Type 0} where
   set-push [] i x y h = absurd (omega arith)
   set-push (z ∷ xs) zero x y h = refl
   set-push (z ∷ xs) (suc i) x y h = ap (λ zs. z ∷ zs) (set-push xs i x y (omega arith))
+
+  pub nth-set-same : (xs : List A) (i : ℕ) (a b : A) → nth xs i ≡ Some b → nth (set xs i a) i ≡ Some a
+  nth-set-same [] i a b e = let z : _≡_ {A = ℕ} 0 1 = cc in absurd (omega arith)
+  nth-set-same (x ∷ xs) zero a b e = refl
+  nth-set-same (x ∷ xs) (suc i) a b e = nth-set-same xs i a b e
+
+  pub nth-set-other : (xs : List A) (t : ℕ) (a : A) (i : ℕ) → (i ≡ t → ⊥) → nth (set xs t a) i ≡ nth xs i
+  nth-set-other [] t a i h = refl
+  nth-set-other (x ∷ xs) zero a zero h = absurd (h refl)
+  nth-set-other (x ∷ xs) zero a (suc i) h = refl
+  nth-set-other (x ∷ xs) (suc t) a zero h = refl
+  nth-set-other (x ∷ xs) (suc t) a (suc i) h = nth-set-other xs t a i (λ e. h (ap suc e))
