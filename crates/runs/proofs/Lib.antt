@@ -9,3 +9,4 @@ pub mod Grows
 pub mod Planned
 pub mod History
 pub mod Sized
+pub mod Same

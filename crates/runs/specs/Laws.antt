@@ -9,7 +9,8 @@ use Rattle.std.specs.declared.option.Option.the-variants.{Some}
 use Rattle.plan.specs.declared.record.Cell.{Cell}
 use Rattle.plan.specs.declared.record.Table.{Table}
 use Rattle.plan.specs.declared.record.Holds.the-variants.{Inner}
-use Rattle.plan.specs.Steps.{columns-of}
+use Rattle.plan.specs.Steps.{columns-of, current-row}
+use Rattle.plan.specs.Taken.{open-at}
 use Rattle.runs.specs.Cells.{takes, free-in}
 use Rattle.runs.specs.State.{State}
 
@@ -66,3 +67,7 @@ pub record Planned (s : State) : Type 0 where
   pub holds : (k n : ℕ) (c : Cell) → nth (s .cells .items) k ≡ Some c → c .holds ≡ Inner n → (0 < n) × (n < length (s .tables .items))
   -- a table's own cells come after the cell that holds it
   pub later : (i k n : ℕ) (a b : Cell) → nth (s .cells .items) i ≡ Some a → nth (s .cells .items) k ≡ Some b → a .holds ≡ Inner n → b .table ≡ n → i < k
+
+-- the code's record of taken columns tells of the current row and of all rows below what the cells tell
+abbrev pub Record-tied : State → Type 0
+Record-tied s = (t : ℕ) (b : Table) → nth (s .tables .items) t ≡ Some b → (r j : ℕ) → current-row b ≤ r → j < columns-of b → open-at (b .taken) r j ≡ free-in (s .cells .items) t r j

@@ -1,0 +1,5 @@
+// A sheet of nested tables in memory that the caller lends, and the calls that build it.
+mod calls;
+mod hold;
+
+pub use hold::Sheet;
