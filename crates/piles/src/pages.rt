@@ -1,0 +1,107 @@
+// How a test holds what any shelf answers to what it should.
+use fault::Fault;
+use fault::FaultDebug;
+use shelf::Shelf;
+use std::test::*;
+
+// A content of a shelf at a width: its number, its least and greatest width, the width, and its lines there, one after the other with
+// nothing between.
+pub(crate) type Content<'a> = (u16, u16, u16, u16, &'a [u8]);
+
+// The shelf has these contents, and no other of the numbers below 10 nor the last two.
+pub(crate) fn check_shelf<S: Shelf>(shelf: &S, contents: &[Content]) -> Result<(), Fail> {
+    for (k, least, most, w, page) in contents {
+        check_widths(shelf, *k, *least, *most).note(*k)?;
+        check_page(shelf, *k, *w, page).note(*w)?;
+    }
+    for k in [0, 1, 2, 3, 4, 5, 6, 7, 8, 9, 65534, 65535] {
+        if !has(contents, k) {
+            check_absent(shelf, k).note(k)?;
+        }
+    }
+    Ok(())
+}
+
+fn has(contents: &[Content], number: u16) -> bool {
+    for (k, _, _, _, _) in contents {
+        if *k == number {
+            return true;
+        }
+    }
+    false
+}
+
+// Content k has the two widths, and is set at none that is smaller or past 2000.
+pub(crate) fn check_widths<S: Shelf>(shelf: &S, k: u16, least: u16, most: u16) -> Result<(), Fail> {
+    check_eq(shelf.widths(k)?, (least, most))?;
+    for w in [0, least.saturating_sub(1), 2001, 65535] {
+        check_refused(shelf.height(k, w), 14)?;
+        check_line_refused(shelf, k, w, 0, 1, 14)?;
+        check_line_refused(shelf, k, w, 65535, 0, 14)?;
+    }
+    Ok(())
+}
+
+// Content k at width w is the page, with no line after its last.
+pub(crate) fn check_page<S: Shelf>(shelf: &S, k: u16, w: u16, page: &[u8]) -> Result<(), Fail> {
+    let height = shelf.height(k, w)?;
+    let wide = w as usize;
+    check_eq(page.len(), height as usize * wide)?;
+    check(wide > 0)?;
+    for (r, line) in (0..height).zip(page.chunks_exact(wide)) {
+        check_line(shelf, k, w, r, line)?;
+    }
+    check_line_refused(shelf, k, w, height, wide, 15)?;
+    check_line_refused(shelf, k, w, 65535, wide - 1, 15)
+}
+
+// Line r of content k at width w is the one given, and goes into no slice of another length.
+fn check_line<S: Shelf>(shelf: &S, k: u16, w: u16, r: u16, line: &[u8]) -> Result<(), Fail> {
+    let wide = line.len();
+    check(wide > 0 && wide <= 2000)?;
+    check_shown(shelf, k, w, r, line)?;
+    check_line_refused(shelf, k, w, r, wide - 1, 16)?;
+    check_line_refused(shelf, k, w, r, wide + 1, 16)
+}
+
+fn check_shown<S: Shelf>(shelf: &S, k: u16, w: u16, r: u16, line: &[u8]) -> Result<(), Fail> {
+    check(line.len() <= 2000)?;
+    let mut room = [0; 2000];
+    let out = &mut room[0..line.len()];
+    shelf.line(k, w, r, out)?;
+    check_eq(&*out, line)
+}
+
+// Content k is not on the shelf, whatever else is wrong with what is asked.
+pub(crate) fn check_absent<S: Shelf>(shelf: &S, k: u16) -> Result<(), Fail> {
+    check_refused(shelf.widths(k), 9)?;
+    for w in [0, 1, 100, 2000, 2001, 65535] {
+        check_refused(shelf.height(k, w), 9)?;
+        check_line_refused(shelf, k, w, 0, 100, 9)?;
+        check_line_refused(shelf, k, w, 65535, 0, 9)?;
+    }
+    Ok(())
+}
+
+// Line r into a slice of n bytes is refused with that number, and the slice is left as it was.
+pub(crate) fn check_line_refused<S: Shelf>(
+    shelf: &S,
+    k: u16,
+    w: u16,
+    r: u16,
+    n: usize,
+    number: u8,
+) -> Result<(), Fail> {
+    check(n <= 2001)?;
+    let mut room = [b'#'; 2001];
+    check_refused(shelf.line(k, w, r, &mut room[0..n]), number)?;
+    check(room == [b'#'; 2001])
+}
+
+// The answer is the refusal of that number, and names no place.
+pub(crate) fn check_refused<T: Drop>(answer: Result<T, Fault>, number: u8) -> Result<(), Fail> {
+    match answer {
+        Ok(_) => Err(Fail::new("not refused")),
+        Err(fault) => check_eq((fault.reason.number(), fault.place), (number, 0)),
+    }
+}
