@@ -61,10 +61,25 @@ impl Sheet<'_, '_> {
     }
 
     /// Adds a cell that holds a new table, and returns the table's number.
-    pub fn nest(&mut self, t: usize, across: u8, down: u8, count: u8, spacing: u8) -> Result<usize, Fault>
+    pub fn nest(
+        &mut self,
+        t: usize,
+        across: u8,
+        down: u8,
+        count: u8,
+        spacing: u8,
+    ) -> Result<usize, Fault>
         ensures { λ r. ⌜ Did-number (wanted (state (now (self .entry))) (Nest t across down count spacing)) (now (self .entry)) (now (self .exit)) r ⌝ }
     {
-        let table = nest_table(&mut self.tables, &mut self.cells, t, across, down, count, spacing)?;
+        let table = nest_table(
+            &mut self.tables,
+            &mut self.cells,
+            t,
+            across,
+            down,
+            count,
+            spacing,
+        )?;
         self.laid = false;
         Ok(table)
     }

@@ -106,8 +106,8 @@ module _ (free free′ : ℕ → Bool) where
       let low : lowest free 0 count ≡ lowest free′ 0 count = lowest-same 0 count (λ i a b. e i (omega arith)) in
       let k : ℕ = lowest free′ 0 count in
       let tests : (leb (k + across) count && clear free k across) ≡ (leb (k + across) count && clear free′ k across) =
-          elim (cases-bool (leb (k + across) count)) [
-            | inl h ↦ let fits = leb-true (k + across) count h in ap (λ b. leb (k + across) count && b) (clear-same k across (λ i a b. e i (omega arith)))
-            | inr h ↦ ap (λ b. b && clear free k across) h ∙ ap (λ b. b && clear free′ k across) (sym h)
-          ] in
+      elim (cases-bool (leb (k + across) count)) [
+        | inl h ↦ let fits = leb-true (k + across) count h in ap (λ b. leb (k + across) count && b) (clear-same k across (λ i a b. e i (omega arith)))
+        | inr h ↦ ap (λ b. b && clear free k across) h ∙ ap (λ b. b && clear free′ k across) (sym h)
+      ] in
       ap (λ i. cond (leb (i + across) count && clear free i across) (Some i) None) low ∙ ap (λ b. cond b (Some k) None) tests

@@ -150,7 +150,14 @@ fn take_columns(table: &mut Table, j: u8, across: u8, down: u8)
 }
 
 /// Places a content at the lowest free column of table t's current row, and returns the cell's number.
-pub fn place_content(tables: &mut List<Table>, cells: &mut List<Cell>, t: usize, content: u16, across: u8, down: u8) -> Result<usize, Fault>
+pub fn place_content(
+    tables: &mut List<Table>,
+    cells: &mut List<Cell>,
+    t: usize,
+    content: u16,
+    across: u8,
+    down: u8,
+) -> Result<usize, Fault>
     ensures { λ r. ⌜ Placed (place-lists by-record (held (now (tables .entry))) (held (now (cells .entry))) t across down content) (now (tables .entry)) (now (tables .exit)) (now (cells .entry)) (now (cells .exit)) r ⌝ }
 {
     if is_bad_span(across, down) {
@@ -170,7 +177,15 @@ pub fn place_content(tables: &mut List<Table>, cells: &mut List<Cell>, t: usize,
 }
 
 /// Adds a cell that holds a new table of its own columns and spacing, and returns the new table's number.
-pub fn nest_table(tables: &mut List<Table>, cells: &mut List<Cell>, t: usize, across: u8, down: u8, count: u8, spacing: u8) -> Result<usize, Fault>
+pub fn nest_table(
+    tables: &mut List<Table>,
+    cells: &mut List<Cell>,
+    t: usize,
+    across: u8,
+    down: u8,
+    count: u8,
+    spacing: u8,
+) -> Result<usize, Fault>
     ensures { λ r. ⌜ Placed (nest-lists by-record (held (now (tables .entry))) (held (now (cells .entry))) t across down count spacing) (now (tables .entry)) (now (tables .exit)) (now (cells .entry)) (now (cells .exit)) r ⌝ }
 {
     if is_bad_span(across, down) || is_bad_table(count, spacing) {

@@ -117,8 +117,7 @@ module _ (s : State) (before after : List Call) where
       let stands = stands-later m last (length (then .cells .items)) t across down (Inner i) c there refl refl refl (ap Inner same) grows in
       let sound = sound-run s (before ++ Nest t across down n q ∷ after) g in
       let like = grows .cells (length (then .cells .items)) c there in
-      let table = new-table (then .tables) (m .tables) t (p .adds .table) _ n q (p .adds .there) (sym (a .1 .3) ∙ p .tables-are) in
-      (
+      let table = new-table (then .tables) (m .tables) t (p .adds .table) _ n q (p .adds .there) (sym (a .1 .3) ∙ p .tables-are) in (
         shaped-later m last i n q (blank-table n q) (ap (nth (m .tables .items)) (sym same) ∙ table) refl refl grows,
         λ k d f h.
             let at : length (then .cells .items) ≡ k = sound .nested .once (length (then .cells .items)) k i (like .0) d (like .1 .0) f (like .1 .1 .holds-is ∙ ap Inner same) h in

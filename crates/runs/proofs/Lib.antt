@@ -1,6 +1,5 @@
 pub mod Lists
 pub mod Free
-
 pub mod Standing
 pub mod Nested
 pub mod Good
