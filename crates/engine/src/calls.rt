@@ -122,11 +122,4 @@ impl Sheet<'_, '_> {
     {
         self.tables.len()
     }
-
-    /// Whether the sheet is laid.
-    pub fn is_laid(&self) -> bool
-        ensures { λ r. ⌜ r ≡ state (now (self .entry)) .laid ⌝ }
-    {
-        self.laid
-    }
 }
