@@ -1,0 +1,30 @@
+-- The laws of the columns, of the offer and of the rows.
+use mathlib.Core.List.{List}
+use mathlib.Core.Path.{_≡_}
+use mathlib.Core.Bool.{false}
+use Prim.Native.Nat.{ℕ, suc, _+_, _-_, _*_, _<_, _≤_}
+use lib.ListN.{length, getD}
+use Rattle.std.specs.shelf.Lists.{All}
+use Rattle.share.specs.Share.{total, stretch}
+use Rattle.plan.specs.declared.record.Column.{Column}
+use Rattle.columns.specs.Wants.{Want}
+use Rattle.columns.specs.Columns.{free, fixed-of, leasts, greatests, spreads, spanned, widths-of, least-width, greatest-width, around}
+
+-- the cell spans 1 to top + 1 of n columns
+abbrev pub Fits : ℕ → ℕ → Want → Type 0
+Fits top n x = (1 ≤ x .span) × (x .span ≤ suc top) × (x .first + x .span ≤ n)
+
+-- the leasts of the cell's columns, with the spacings between them, are at least its minimum
+abbrev pub Served : ℕ → List Column → Want → Type 0
+Served q cs x = x .minimum ≤ total (leasts (spanned x cs)) + (x .span - 1) * q
+
+abbrev pub Ordered : Column → Type 0
+Ordered c = c .least ≤ c .greatest
+
+-- nothing in a column passes M
+abbrev pub Bounded : ℕ → Column → Type 0
+Bounded M c = (c .least ≤ M) × (c .greatest ≤ M)
+
+-- a fixed column has one width, at least the fixed one
+abbrev pub Settled : Column → Type 0
+Settled c = free c ≡ false → (c .least ≡ c .greatest) × (fixed-of c ≤ c .least)
