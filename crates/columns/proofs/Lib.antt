@@ -5,3 +5,4 @@ pub mod Served
 pub mod Bounded
 pub mod Offer
 pub mod Rows
+pub mod Wide

@@ -20,16 +20,16 @@ use Rattle.columns.specs.Columns.{leasts, free, over, spanned, fresh, raised-t
 use Rattle.columns.specs.Laws.{Fits, Served}
 use Rattle.columns.proofs.Grown.{Grown, grown-trans, grown-length, grown-sizing, still-served, grown-one, grown-span, grown-held, grown-meet, grown-each-of, grown-spans}
 
-all-of : {X : Type 0} (P : X → Type 0) → ((x : X) → P x) → (xs : List X) → All P xs
+pub all-of : {X : Type 0} (P : X → Type 0) → ((x : X) → P x) → (xs : List X) → All P xs
 all-of P h [] = tt
 all-of P h (x ∷ xs) = (h x, all-of P h xs)
 
-all-both : {X : Type 0} (P Q R : X → Type 0) → ((x : X) → P x → Q x → R x) → (xs : List X) → All P xs → All Q xs → All R xs
+pub all-both : {X : Type 0} (P Q R : X → Type 0) → ((x : X) → P x → Q x → R x) → (xs : List X) → All P xs → All Q xs → All R xs
 all-both P Q R h [] p q = tt
 all-both P Q R h (x ∷ xs) p q = (h x (p .0) (q .0), all-both P Q R h xs (p .1) (q .1))
 
 -- what stands in the place after f was done there
-spanned-over : (f : List Column → List Column) → ((ys : List Column) → length (f ys) ≡ length ys) → (i k : ℕ) (xs : List Column) →
+pub spanned-over : (f : List Column → List Column) → ((ys : List Column) → length (f ys) ≡ length ys) → (i k : ℕ) (xs : List Column) →
     i + k ≤ length xs → take k (drop i (over f i k xs)) ≡ f (take k (drop i xs))
 unfolding over
 spanned-over f h zero k xs fits = take-at (f (take k xs)) (drop k xs) k (h (take k xs) ∙ length-take-le k xs (omega arith))

@@ -19,7 +19,7 @@ use Rattle.columns.specs.Laws.{Settled}
 abbrev Keeps : (List Column → List Column) → Type 0
 Keeps f = (cs : List Column) → All Settled cs → All Settled (f cs)
 
-keeps-over : (f : List Column → List Column) → Keeps f → (i k : ℕ) → Keeps (over f i k)
+pub keeps-over : (f : List Column → List Column) → Keeps f → (i k : ℕ) → Keeps (over f i k)
 unfolding over
 keeps-over f h zero k xs o = all-append Settled _ _ (h (take k xs) (all-take Settled k xs o)) (all-drop Settled k xs o)
 keeps-over f h (suc i) k [] o = tt
@@ -44,11 +44,11 @@ keeps-greatest W D b (c ∷ cs) o =
     ( (λ e. omega (arith, o .0 e, no-part W D b c e))
     , keeps-greatest W D (b + cond (free c) 1 0) cs (o .1) )
 
-keeps-meet : (q : ℕ) (x : Want) → Keeps (λ cs. meet-maximum q x (meet-minimum q x cs))
+pub keeps-meet : (q : ℕ) (x : Want) → Keeps (λ cs. meet-maximum q x (meet-minimum q x cs))
 unfolding meet-maximum meet-minimum
 keeps-meet q x cs o = keeps-greatest _ _ 0 _ (keeps-least _ cs o)
 
-keeps-each-of : (q s : ℕ) (xs : List Want) → Keeps (each-of s (raise-span q) xs)
+pub keeps-each-of : (q s : ℕ) (xs : List Want) → Keeps (each-of s (raise-span q) xs)
 unfolding each-of
 keeps-each-of q s [] cs o = o
 keeps-each-of q s (x ∷ xs) cs o =
@@ -60,7 +60,7 @@ unfolding spans
 keeps-spans q zero s xs cs o = o
 keeps-spans q (suc n) s xs cs o = keeps-spans q n (suc s) xs _ (keeps-each-of q s xs cs o)
 
-held-settled : (cs : List Column) → All Settled (map held cs)
+pub held-settled : (cs : List Column) → All Settled (map held cs)
 held-settled [] = tt
 held-settled (c ∷ cs) =
     ( cond-both (free c) c _ Settled (λ t f. absurd (both-ways (free c) f t)) (λ e _. (refl, omega arith))

@@ -8,7 +8,7 @@ use Rattle.std.specs.shelf.Lists.{All}
 use Rattle.share.specs.Share.{total, stretch}
 use Rattle.plan.specs.declared.record.Column.{Column}
 use Rattle.columns.specs.Wants.{Want}
-use Rattle.columns.specs.Columns.{free, fixed-of, leasts, greatests, spreads, spanned, widths-of, least-width, greatest-width, around}
+use Rattle.columns.specs.Columns.{free, fixed-of, free-weights, leasts, greatests, spreads, spanned, widths-of, least-width, greatest-width, around}
 
 -- the cell spans 1 to top + 1 of n columns
 abbrev pub Fits : ℕ → ℕ → Want → Type 0
@@ -28,3 +28,11 @@ Bounded M c = (c .least ≤ M) × (c .greatest ≤ M)
 -- a fixed column has one width, at least the fixed one
 abbrev pub Settled : Column → Type 0
 Settled c = free c ≡ false → (c .least ≡ c .greatest) × (fixed-of c ≤ c .least)
+
+-- one of the columns that the cell spans is free
+abbrev pub Open : Want → List Column → Type 0
+Open x cs = 0 < total (free-weights (spanned x cs))
+
+-- the greatests of the cell's columns, with the spacings between them, are at least its maximum
+abbrev pub Wide : ℕ → List Column → Want → Type 0
+Wide q cs x = x .maximum ≤ total (greatests (spanned x cs)) + (x .span - 1) * q
