@@ -6,3 +6,4 @@ pub mod Bounded
 pub mod Offer
 pub mod Rows
 pub mod Wide
+pub mod Exact

@@ -114,7 +114,7 @@ weights-grown : {cs ds : List Column} → Grown cs ds → free-weights ds ≡ fr
 weights-grown none = refl
 weights-grown (more h t) = ap₂ (λ z ws. cond (is-free z) 1 0 ∷ ws) (sym (h .1)) (weights-grown t)
 
-open-grown : (x : Want) {cs ds : List Column} → Grown cs ds → Open x cs → Open x ds
+pub open-grown : (x : Want) {cs ds : List Column} → Grown cs ds → Open x cs → Open x ds
 open-grown x g o = subst (λ ws. 0 < total ws) (sym (weights-grown (grown-take (x .span) (grown-drop (x .first) g)))) o
 
 -- ---- a span of 1
@@ -229,7 +229,7 @@ weights-fresh : (cs : List Column) → free-weights (map fresh cs) ≡ free-weig
 weights-fresh [] = refl
 weights-fresh (c ∷ cs) = ap (λ ws. cond (free c) 1 0 ∷ ws) (weights-fresh cs)
 
-fresh-weights : (i k : ℕ) (cs : List Column) → free-weights (take k (drop i (map fresh cs))) ≡ free-weights (take k (drop i cs))
+pub fresh-weights : (i k : ℕ) (cs : List Column) → free-weights (take k (drop i (map fresh cs))) ≡ free-weights (take k (drop i cs))
 fresh-weights i k cs = ap free-weights (spanned-map fresh i k cs) ∙ weights-fresh (take k (drop i cs))
 
 -- a free column by itself is as it was after step 2

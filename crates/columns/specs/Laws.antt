@@ -1,12 +1,14 @@
 -- The laws of the columns, of the offer and of the rows.
-use mathlib.Core.List.{List}
+use mathlib.Core.List.{List, [], _∷_}
 use mathlib.Core.Path.{_≡_}
-use mathlib.Core.Bool.{false}
-use Prim.Native.Nat.{ℕ, suc, _+_, _-_, _*_, _<_, _≤_}
+use mathlib.Core.Bool.{false, cond, _&&_}
+use Prim.Native.Nat.{ℕ, suc, _+_, _-_, _*_, _<_, _≤_, max}
+use lib.Dec.{eqb}
 use lib.ListN.{length, getD}
 use Rattle.std.specs.shelf.Lists.{All}
 use Rattle.share.specs.Share.{total, stretch}
 use Rattle.plan.specs.declared.record.Column.{Column}
+use Rattle.plan.specs.Blank.{blank-column}
 use Rattle.columns.specs.Wants.{Want}
 use Rattle.columns.specs.Columns.{free, fixed-of, free-weights, leasts, greatests, spreads, spanned, widths-of, least-width, greatest-width, around}
 
@@ -36,3 +38,16 @@ Open x cs = 0 < total (free-weights (spanned x cs))
 -- the greatests of the cell's columns, with the spacings between them, are at least its maximum
 abbrev pub Wide : ℕ → List Column → Want → Type 0
 Wide q cs x = x .maximum ≤ total (greatests (spanned x cs)) + (x .span - 1) * q
+
+-- the largest minimum among the cells of span 1 in column j, and at least 1
+abbrev pub own-minimum : ℕ → List Want → ℕ
+own-minimum j [] = 1
+own-minimum j (x ∷ xs) = cond (eqb (x .span) 1 && eqb (x .first) j) (max (x .minimum) (own-minimum j xs)) (own-minimum j xs)
+
+-- a longer span does not raise column j: it does not cover it, or the column is fixed and another one that it covers is free
+abbrev pub Spares : List Column → ℕ → Want → Type 0
+Spares cs j x = 2 ≤ x .span → x .first ≤ j → j < x .first + x .span → (free (getD cs j blank-column) ≡ false) × Open x cs
+
+-- a column that no longer span raises has just what its own cells ask, or its fixed width if that is larger
+abbrev pub own-least : Column → ℕ → ℕ
+own-least c own = max (fixed-of c) own
