@@ -5,9 +5,9 @@ use mathlib.Core.Bool.{Bool, true, false, cond}
 use Prim.Native.Nat.{ℕ, zero, suc, _+_, _-_, _*_, _<_, _≤_, max}
 use native.Mathlib.Omega.{arith}
 use lib.Dec.{eqb}
-use lib.ListN.{length, take, drop, replicate}
+use lib.ListN.{length, take, drop, replicate, length-replicate}
 use Rattle.std.specs.shelf.Lists.{All}
-use Rattle.std.proofs.shelf.Elements.{all-take, all-drop}
+use Rattle.std.proofs.shelf.Elements.{all-take, all-drop, all-weaker}
 use Rattle.std.proofs.shelf.Lists.{take-map, drop-map, length-map}
 use Rattle.std.proofs.shelf.Tests.{cond-both, cond-true, eq-eqb}
 use Rattle.share.specs.Share.{total, parts, ones}
@@ -17,8 +17,9 @@ use Rattle.columns.specs.Wants.{Want}
 use Rattle.plan.specs.declared.record.Sizing.the-variants.{Free}
 use Rattle.plan.specs.Blank.{blank-column}
 use Rattle.columns.specs.Columns.{leasts, free, is-free, over, fresh, raised-to, raise-one, held, need, weight, even-weights, none-free, with-parts, more-least, more-greatest, meet-minimum, meet-maximum, raise-span, each-of, spans, pass, sums, raise-row, meet-rows, raise-rows, rows-of}
-use Rattle.columns.proofs.Grown.{Grown, none, more, grown-one, grown-span, grown-held}
-use Rattle.columns.proofs.Served.{leasts-widened}
+use Rattle.columns.proofs.Grown.{Grown, none, more, grown-trans, grown-one, grown-span, grown-held, grown-each-of, grown-spans}
+use Rattle.columns.specs.Laws.{Fits, Served}
+use Rattle.columns.proofs.Served.{leasts-widened, minimums-are-met}
 
 abbrev All-free : List Column → Type 0
 All-free cs = All (λ (c : Column). c .sizing ≡ Free) cs
@@ -118,3 +119,35 @@ rows-are-columns q n xs =
     let ds : List Column = each-of 1 raise-one xs cs in
     let r = alike-spans (raise-span q) (raise-rows q) (alike-span q) 63 2 xs w (map held ds) (free-grown (grown-held ds) (e .1)) in
     r .0 ∙ ap (spans (raise-rows q) 63 2 xs) (leasts-held ds (e .1) ∙ (e .0 ∙ ap (each-of 1 raise-row xs) (leasts-fresh n)))
+
+-- ---- what follows for rows
+
+leasts-spanned : (i k : ℕ) (cs : List Column) → take k (drop i (leasts cs)) ≡ leasts (take k (drop i cs))
+leasts-spanned i k cs = ap (take k) (drop-map (λ (c : Column). c .least) i cs) ∙ take-map (λ (c : Column). c .least) k (drop i cs)
+
+-- every cell has room in the rows that it spans
+pub rows-have-room : (q n : ℕ) (xs : List Want) → All (Fits 63 n) xs → All (λ (x : Want). x .minimum ≤ total (take (x .span) (drop (x .first) (rows-of q n xs))) + (x .span - 1) * q) xs
+rows-have-room q n xs fits =
+    let cols : List Column = replicate n blank-column in
+    let end : List Column = pass 63 q cols xs in
+    let served = minimums-are-met 63 q cols xs (subst (λ k. All (Fits 63 k) xs) (sym (length-replicate n blank-column)) fits) in
+    all-weaker (Served q end) (λ (x : Want). x .minimum ≤ total (take (x .span) (drop (x .first) (rows-of q n xs))) + (x .span - 1) * q)
+    (λ x h. subst (λ hs. x .minimum ≤ total (take (x .span) (drop (x .first) hs)) + (x .span - 1) * q) (rows-are-columns q n xs) (subst (λ hs. x .minimum ≤ total hs + (x .span - 1) * q) (sym (leasts-spanned (x .first) (x .span) end)) h))
+    xs served
+
+least-some : {cs ds : List Column} → Grown cs ds → All (λ (c : Column). 1 ≤ c .least) cs → All (λ h. 1 ≤ h) (leasts ds)
+least-some none o = tt
+least-some (more h t) o = (omega (arith, h .0, o .0), least-some t (o .1))
+
+fresh-some : (n : ℕ) → All (λ (c : Column). 1 ≤ c .least) (map fresh (replicate n blank-column))
+fresh-some zero = tt
+fresh-some (suc n) = (omega arith, fresh-some n)
+
+-- no row is lower than 1
+pub rows-are-some : (q n : ℕ) (xs : List Want) → All (λ h. 1 ≤ h) (rows-of q n xs)
+unfolding pass
+rows-are-some q n xs =
+    let cs : List Column = map fresh (replicate n blank-column) in
+    let ds : List Column = each-of 1 raise-one xs cs in
+    let g = grown-trans (grown-each-of 1 raise-one grown-one xs cs) (grown-trans (grown-held ds) (grown-spans q 63 2 xs (map held ds))) in
+    subst (All (λ h. 1 ≤ h)) (rows-are-columns q n xs) (least-some g (fresh-some n))
