@@ -1,0 +1,5 @@
+// How wide the columns of a table are and how tall its rows, given what its cells ask.
+mod column;
+mod span;
+
+pub mod ask;
