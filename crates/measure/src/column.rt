@@ -1,12 +1,19 @@
 // One column is raised.
 ghost use mathlib.Core.Path.{_≡_};
-ghost use mathlib.Core.Bool.{cond};
-ghost use Prim.Native.Nat.{_+_, _<_};
-ghost use Rattle.columns.specs.Columns.{free, weight, fresh, held, more-least, more-greatest};
+ghost use Prim.Native.Nat.{_-_, _≤_};
+ghost use Rattle.columns.specs.Columns.{free, weight, fresh, held};
 ghost use Rattle.measure.specs.Asks.{raised-by};
+ghost use Rattle.measure.specs.Bounds.{bound-of, more};
 use crate::ask::Ask;
 use plan::Column;
 use plan::Sizing;
+
+// One of the two bounds of a column's width.
+#[derive(Clone, Copy)]
+pub(crate) enum Bound {
+    Least,
+    Greatest,
+}
 
 // Whether the column is free.
 pub(crate) fn is_free(c: &Column) -> bool
@@ -52,23 +59,30 @@ pub(crate) fn hold(c: &mut Column)
     }
 }
 
-// The least grows by p, and the greatest follows.
-pub(crate) fn grow_least(c: &mut Column, p: u16)
-    requires { ⌜ now c .least + p < 65536 ⌝ }
-    ensures { λ _. ⌜ now (c .exit) ≡ more-least p (now (c .entry)) ⌝ }
+// One of the bounds.
+pub(crate) fn bound_of(bound: Bound, c: &Column) -> u16
+    ensures { λ r. ⌜ r ≡ bound-of bound (now (c .entry)) ⌝ }
 {
-    c.least += p;
-    if is_free(c) {
-        c.greatest = c.greatest.max(c.least);
-    } else {
-        c.greatest = c.least;
+    match bound {
+        Bound::Least => c.least,
+        Bound::Greatest => c.greatest,
     }
 }
 
-// The greatest grows by p.
-pub(crate) fn grow_greatest(c: &mut Column, p: u16)
-    requires { ⌜ now c .greatest + p < 65536 ⌝ }
-    ensures { λ _. ⌜ now (c .exit) ≡ more-greatest p (now (c .entry)) ⌝ }
+// One of the bounds grows by p; where it is the least, the greatest follows.
+pub(crate) fn grow(bound: Bound, c: &mut Column, p: u16)
+    requires { ⌜ p ≤ 65535 - bound-of bound (now c) ⌝ }
+    ensures { λ _. ⌜ now (c .exit) ≡ more bound p (now (c .entry)) ⌝ }
 {
-    c.greatest += p;
+    match bound {
+        Bound::Least => {
+            c.least += p;
+            if is_free(c) {
+                c.greatest = c.greatest.max(c.least);
+            } else {
+                c.greatest = c.least;
+            }
+        }
+        Bound::Greatest => c.greatest += p,
+    }
 }
