@@ -1,18 +1,28 @@
 -- What the cells of a table ask, as the code has it: the cells, and beside each what it asks.
 use mathlib.Core.Bool.{Bool, cond, _&&_}
-use mathlib.Core.List.{List, [], _∷_}
+use mathlib.Core.List.{List, [], _∷_, map}
 use Prim.Native.Nat.{ℕ, _+_, max}
-use lib.Dec.{leb, eqb}
+use lib.Dec.{leb, ltb, eqb}
+use lib.ListN.{length, getD}
+use Rattle.std.specs.declared.option.Option.{Option}
+use Rattle.std.specs.declared.option.Option.the-variants.{Some, None}
 use Rattle.plan.specs.declared.record.Cell.{Cell}
 use Rattle.plan.specs.declared.record.Column.{Column}
 use Rattle.plan.specs.Steps.{from-to}
-use Rattle.columns.specs.Columns.{raised-to}
+use Rattle.columns.specs.Columns.{over}
 use Rattle.columns.specs.Wants.{Want}
+use Rattle.measure.specs.Bounds.{meet}
 use Rattle.measure.specs.declared.ask.Ask.{Ask}
+use Rattle.measure.specs.declared.column.Bound.the-variants.{Least, Greatest}
 
 -- a column raised to what a cell asks
 abbrev pub raised-by : Ask → Column → Column
 raised-by a c = record { sizing = c .sizing; least = max (c .least) (a .least); greatest = max (c .greatest) (a .greatest); width = c .width }
+
+-- the columns that a cell spans, raised by what it asks: one column to just that, more by shares
+abbrev pub lifted : ℕ → Ask → List Column → List Column
+lifted q a cs =
+    cond (eqb (length cs) 1) (map (raised-by a) cs) (meet Greatest q (length cs) (a .greatest) (meet Least q (length cs) (a .least) cs))
 
 -- what cell c asks of the columns
 abbrev pub want-of : Cell → Ask → Want
@@ -27,3 +37,14 @@ abbrev pub wants : ℕ → ℕ → List Cell → List Ask → List Want
 wants t n [] as′ = []
 wants t n (c ∷ cs) [] = []
 wants t n (c ∷ cs) (a ∷ as′) = cond (asks-in t n c) (want-of c a ∷ wants t n cs as′) (wants t n cs as′)
+
+abbrev pub no-ask : Ask
+no-ask = record { least = 0; greatest = 0 }
+
+-- what cell i asks, if it spans s of the n columns of table t
+abbrev pub asked : ℕ → ℕ → ℕ → ℕ → Cell → List Ask → Option Ask
+asked t n s i c as′ = cond (eqb (c .across) s && (ltb i (length as′) && asks-in t n c)) (Some (getD as′ i no-ask)) None
+
+-- a cell of any span raises the columns that it spans
+abbrev pub step : ℕ → Want → List Column → List Column
+step q x cs = over (lifted q (record { least = x .minimum; greatest = x .maximum })) (x .first) (x .span) cs

@@ -1,5 +1,6 @@
 // How wide the columns of a table are and how tall its rows, given what its cells ask.
 mod column;
+mod pass;
 mod span;
 
 pub mod ask;

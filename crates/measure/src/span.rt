@@ -49,7 +49,7 @@ fn all_share(bound: Bound, cols: &[Column]) -> bool
 }
 
 // What a width asks of one of the bounds is shared over the columns, which are those of a whole span.
-fn meet_bound(bound: Bound, spacing: u8, wanted: u16, cols: &mut [Column])
+pub(crate) fn meet_bound(bound: Bound, spacing: u8, wanted: u16, cols: &mut [Column])
     requires { ⌜ 0 < length (now cols) ⌝ ∗ ⌜ length (now cols) ≤ 32 ⌝ }
     ensures { λ _. ⌜ now (cols .exit) ≡ meet bound spacing (length (now (cols .entry))) wanted (now (cols .entry)) ⌝ }
 {

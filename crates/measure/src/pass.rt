@@ -1,0 +1,64 @@
+// The columns of a table are raised by what its cells ask.
+ghost use mathlib.Core.Path.{_≡_};
+ghost use Prim.Native.Nat.{_<_, _≤_};
+ghost use lib.ListN.{length};
+ghost use Rattle.columns.specs.Columns.{each-of};
+ghost use Rattle.measure.specs.Asks.{asks-in, asked, wants, lifted, step};
+use crate::ask::Ask;
+use crate::column::Bound;
+use crate::column::raise;
+use crate::span::meet_bound;
+use plan::Cell;
+use plan::Column;
+
+// Whether the cell is one of table t and lies in its n columns.
+fn asks_in(t: usize, n: usize, cell: &Cell) -> bool
+    ensures { λ r. ⌜ r ≡ asks-in t n (now (cell .entry)) ⌝ }
+{
+    cell.table == t
+        && 1 <= cell.across
+        && cell.across <= 32
+        && cell.column as usize + cell.across as usize <= n
+}
+
+// The columns that a cell spans are raised by what it asks.
+fn lift(spacing: u8, ask: Ask, cols: &mut [Column])
+    requires { ⌜ 0 < length (now cols) ⌝ ∗ ⌜ length (now cols) ≤ 32 ⌝ }
+    ensures { λ _. ⌜ now (cols .exit) ≡ lifted spacing ask (now (cols .entry)) ⌝ }
+{
+    if cols.len() == 1 {
+        raise(&mut cols[0], ask);
+    } else {
+        meet_bound(Bound::Least, spacing, ask.least, cols);
+        meet_bound(Bound::Greatest, spacing, ask.greatest, cols);
+    }
+}
+
+// What cell i asks, if it spans s of the n columns of table t.
+fn asked(t: usize, n: usize, s: u8, i: usize, cell: &Cell, asks: &[Ask]) -> Option<Ask>
+    ensures { λ r. ⌜ r ≡ asked t n s i (now (cell .entry)) (now (asks .entry)) ⌝ }
+{
+    if cell.across == s && i < asks.len() && asks_in(t, n, cell) {
+        Some(asks[i])
+    } else {
+        None
+    }
+}
+
+// The columns are raised by all cells of span s, in the order of their numbers.
+fn lift_all(t: usize, spacing: u8, s: u8, cells: &[Cell], asks: &[Ask], cols: &mut [Column])
+    requires { ⌜ length (now cols) ≤ 32 ⌝ }
+    ensures {
+        λ _.
+            ⌜ now (cols .exit)
+              ≡ each-of s (step spacing) (wants t (length (now (cols .entry))) (now (cells .entry)) (now (asks .entry))) (now (cols .entry)) ⌝
+    }
+{
+    for (i, cell) in cells.iter().enumerate() {
+        if let Some(ask) = asked(t, cols.len(), s, i, cell, asks) {
+            let first = cell.column as usize;
+            let end = first + cell.across as usize;
+            lift(spacing, ask, &mut cols[first..end]);
+        }
+    }
+}
