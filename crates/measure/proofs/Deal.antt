@@ -82,3 +82,20 @@ pub meet-from : (b : Bound) (q m : ℕ) (cs ds : List Column) (has above n : ℕ
 meet-from b q m cs ds has above n all D eh ea en el ed e =
     let i = meet-is b q (length cs) m cs in
     cc
+
+-- every column is changed: one more, and all
+pub mapped-more : (f : Column → Column) (cs : List Column) (i : ℕ) (c : Column) (T : List Column) → i < length cs → c ≡ f (getD cs i blank-column) →
+    take i cs ++ map f (drop i cs) ≡ T → take (i + 1) (set cs i c) ++ map f (drop (i + 1) (set cs i c)) ≡ T
+mapped-more f cs i c T h ec e =
+    let t = take-more-set cs i c h in
+    let d = drop-set-lt (i + 1) cs i c (omega arith) in
+    let s = at-drop-more (map f) cs i blank-column h in
+    let a = append-assoc (take i cs) (c ∷ []) (map f (drop (i + 1) cs)) in
+    cc
+
+pub mapped-all : (f : Column → Column) (cs : List Column) (i : ℕ) (T : List Column) → length cs ≤ i → take i cs ++ map f (drop i cs) ≡ T → cs ≡ T
+mapped-all f cs i T h e =
+    let t = take-all i cs h in
+    let s = at-drop-all (map f) cs i h in
+    let a = append-nil cs in
+    cc

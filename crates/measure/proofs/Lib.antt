@@ -1,2 +1,3 @@
 pub mod Deal
 pub mod Lift
+pub mod Marks

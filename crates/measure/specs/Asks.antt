@@ -1,9 +1,11 @@
 -- What the cells of a table ask, as the code has it: the cells, and beside each what it asks.
-use mathlib.Core.Bool.{Bool, cond, _&&_}
+use mathlib.Core.Bool.{Bool, true, cond, _&&_}
+use mathlib.Core.Path.{_≡_}
 use mathlib.Core.List.{List, [], _∷_, map}
 use Prim.Native.Nat.{ℕ, _+_, max}
 use lib.Dec.{leb, ltb, eqb}
 use lib.ListN.{length, getD}
+use Rattle.std.specs.shelf.Lists.{All}
 use Rattle.std.specs.declared.option.Option.{Option}
 use Rattle.std.specs.declared.option.Option.the-variants.{Some, None}
 use Rattle.plan.specs.declared.record.Cell.{Cell}
@@ -48,3 +50,7 @@ asked t n s i c as′ = cond (eqb (c .across) s && (ltb i (length as′) && asks
 -- a cell of any span raises the columns that it spans
 abbrev pub step : ℕ → Want → List Column → List Column
 step q x cs = over (lifted q (record { least = x .minimum; greatest = x .maximum })) (x .first) (x .span) cs
+
+-- no cell asks for s of the n columns of table t
+abbrev pub Absent : ℕ → ℕ → ℕ → List Cell → Type 0
+Absent t n s cs = All (λ c. asks-in t n c ≡ true → c .across ≡ s → ⊥) cs

@@ -1,12 +1,16 @@
 // The columns of a table are raised by what its cells ask.
 ghost use mathlib.Core.Path.{_≡_};
-ghost use Prim.Native.Nat.{_<_, _≤_};
-ghost use lib.ListN.{length};
-ghost use Rattle.columns.specs.Columns.{each-of};
-ghost use Rattle.measure.specs.Asks.{asks-in, asked, wants, lifted, step};
+ghost use mathlib.Core.Bool.{false, true};
+ghost use mathlib.Core.List.{map};
+ghost use Prim.Native.Nat.{ℕ, _<_, _≤_};
+ghost use lib.ListN.{length, getD};
+ghost use Rattle.columns.specs.Columns.{each-of, fresh, held};
+ghost use Rattle.measure.specs.Asks.{Absent, asks-in, asked, wants, lifted, step};
 use crate::ask::Ask;
 use crate::column::Bound;
+use crate::column::hold;
 use crate::column::raise;
+use crate::column::reset;
 use crate::span::meet_bound;
 use plan::Cell;
 use plan::Column;
@@ -61,4 +65,35 @@ fn lift_all(t: usize, spacing: u8, s: u8, cells: &[Cell], asks: &[Ask], cols: &m
             lift(spacing, ask, &mut cols[first..end]);
         }
     }
+}
+
+// Every column starts anew.
+fn reset_all(cols: &mut [Column])
+    ensures { λ _. ⌜ now (cols .exit) ≡ map fresh (now (cols .entry)) ⌝ }
+{
+    for c in cols.iter_mut() {
+        reset(c);
+    }
+}
+
+// Every fixed column is held to its width.
+fn hold_all(cols: &mut [Column])
+    ensures { λ _. ⌜ now (cols .exit) ≡ map held (now (cols .entry)) ⌝ }
+{
+    for c in cols.iter_mut() {
+        hold(c);
+    }
+}
+
+// Which spans occur among the cells that ask for some of the n columns of table t.
+fn mark_spans(t: usize, n: usize, cells: &[Cell]) -> [bool; 33]
+    ensures { λ r. ⌜ ((s : ℕ) → s < 33 → getD r s true ≡ false → Absent t n s (now (cells .entry))) ⌝ }
+{
+    let mut marks = [false; 33];
+    for cell in cells {
+        if asks_in(t, n, cell) {
+            marks[cell.across as usize] = true;
+        }
+    }
+    marks
 }
