@@ -1,3 +1,4 @@
 pub mod Deal
 pub mod Lift
 pub mod Marks
+pub mod Walk

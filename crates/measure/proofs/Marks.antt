@@ -22,21 +22,21 @@ use Rattle.measure.specs.Asks.{Absent, asks-in, wants, want-of}
 
 -- spans without a mark are not among the cells
 abbrev pub Marked : ℕ → ℕ → List Bool → List Cell → Type 0
-Marked t n ms cs = (s : ℕ) → s < 33 → getD ms s true ≡ false → Absent t n s cs
+Marked t n ms cs = (s : ℕ) → getD ms s false ≡ false → Absent t n s cs
 
 module _ (t n : ℕ) (ms : List Bool) (cs : List Cell) (i : ℕ) (h : i < length cs) where
   pub marked-yes : getD cs i blank-cell .across < length ms → Marked t n ms (take i cs) →
       Marked t n (set ms (getD cs i blank-cell .across) true) (take (i + 1) cs)
-  marked-yes l m s b e =
+  marked-yes l m s e =
       let k = getD cs i blank-cell .across in
       elim (cases-eq s k)
-      [ inl same ↦ absurd (true≢false (sym (getD-set-same ms k true true l) ∙ ap (λ j. getD (set ms k true) j true) (sym same) ∙ e))
+      [ inl same ↦ absurd (true≢false (sym (getD-set-same ms k true false l) ∙ ap (λ j. getD (set ms k true) j false) (sym same) ∙ e))
       | inr other ↦
-          all-more (λ c. asks-in t n c ≡ true → c .across ≡ s → ⊥) cs i blank-cell h (m s b (sym (getD-set-other ms k s true true other) ∙ e)) (λ _ is. other (sym is)) ]
+          all-more (λ c. asks-in t n c ≡ true → c .across ≡ s → ⊥) cs i blank-cell h (m s (sym (getD-set-other ms k s true false other) ∙ e)) (λ _ is. other (sym is)) ]
 
   pub marked-no : asks-in t n (getD cs i blank-cell) ≡ false → Marked t n ms (take i cs) → Marked t n ms (take (i + 1) cs)
-  marked-no not m s b e =
-      all-more (λ c. asks-in t n c ≡ true → c .across ≡ s → ⊥) cs i blank-cell h (m s b e) (λ is _. true≢false (sym is ∙ not))
+  marked-no not m s e =
+      all-more (λ c. asks-in t n c ≡ true → c .across ≡ s → ⊥) cs i blank-cell h (m s e) (λ is _. true≢false (sym is ∙ not))
 
 -- a span that does not occur changes nothing
 pub each-absent : {S : Type 0} (f : Want → S → S) (t n s : ℕ) (cs : List Cell) (as′ : List Ask) (x : S) → Absent t n s cs → each-of s f (wants t n cs as′) x ≡ x

@@ -1,10 +1,10 @@
 // The columns of a table are raised by what its cells ask.
 ghost use mathlib.Core.Path.{_≡_};
-ghost use mathlib.Core.Bool.{false, true};
+ghost use mathlib.Core.Bool.{false};
 ghost use mathlib.Core.List.{map};
 ghost use Prim.Native.Nat.{ℕ, _<_, _≤_};
 ghost use lib.ListN.{length, getD};
-ghost use Rattle.columns.specs.Columns.{each-of, fresh, held};
+ghost use Rattle.columns.specs.Columns.{each-of, spans, columns-of, fresh, held};
 ghost use Rattle.measure.specs.Asks.{Absent, asks-in, asked, wants, lifted, step};
 use crate::ask::Ask;
 use crate::column::Bound;
@@ -87,7 +87,7 @@ fn hold_all(cols: &mut [Column])
 
 // Which spans occur among the cells that ask for some of the n columns of table t.
 fn mark_spans(t: usize, n: usize, cells: &[Cell]) -> [bool; 33]
-    ensures { λ r. ⌜ ((s : ℕ) → s < 33 → getD r s true ≡ false → Absent t n s (now (cells .entry))) ⌝ }
+    ensures { λ r. ⌜ ((s : ℕ) → getD r s false ≡ false → Absent t n s (now (cells .entry))) ⌝ }
 {
     let mut marks = [false; 33];
     for cell in cells {
@@ -96,4 +96,36 @@ fn mark_spans(t: usize, n: usize, cells: &[Cell]) -> [bool; 33]
         }
     }
     marks
+}
+
+// The columns are raised by the cells of span 2, then 3, and so on to 32; only the spans that occur are walked.
+fn lift_spans(t: usize, spacing: u8, cells: &[Cell], asks: &[Ask], cols: &mut [Column])
+    requires { ⌜ length (now cols) ≤ 32 ⌝ }
+    ensures {
+        λ _.
+            ⌜ now (cols .exit)
+              ≡ spans (step spacing) 31 2 (wants t (length (now (cols .entry))) (now (cells .entry)) (now (asks .entry))) (now (cols .entry)) ⌝
+    }
+{
+    let marks = mark_spans(t, cols.len(), cells);
+    for s in 2..33u8 {
+        if marks[s as usize] {
+            lift_all(t, spacing, s, cells, asks, cols);
+        }
+    }
+}
+
+// The columns of table t, as its cells ask.
+pub(crate) fn measure(t: usize, spacing: u8, cells: &[Cell], asks: &[Ask], cols: &mut [Column])
+    requires { ⌜ length (now cols) ≤ 32 ⌝ }
+    ensures {
+        λ _.
+            ⌜ now (cols .exit)
+              ≡ columns-of spacing (now (cols .entry)) (wants t (length (now (cols .entry))) (now (cells .entry)) (now (asks .entry))) ⌝
+    }
+{
+    reset_all(cols);
+    lift_all(t, spacing, 1, cells, asks, cols);
+    hold_all(cols);
+    lift_spans(t, spacing, cells, asks, cols);
 }
