@@ -7,3 +7,4 @@ pub mod Offer
 pub mod Rows
 pub mod Wide
 pub mod Exact
+pub mod Lawful

@@ -1,7 +1,7 @@
 -- The laws of the columns, of the offer and of the rows.
-use mathlib.Core.List.{List, [], _∷_}
+use mathlib.Core.List.{List, [], _∷_, map}
 use mathlib.Core.Path.{_≡_}
-use mathlib.Core.Bool.{false, cond, _&&_}
+use mathlib.Core.Bool.{true, false, cond, _&&_}
 use Prim.Native.Nat.{ℕ, suc, _+_, _-_, _*_, _<_, _≤_, max}
 use lib.Dec.{eqb}
 use lib.ListN.{length, getD}
@@ -10,7 +10,7 @@ use Rattle.share.specs.Share.{total, stretch}
 use Rattle.plan.specs.declared.record.Column.{Column}
 use Rattle.plan.specs.Blank.{blank-column}
 use Rattle.columns.specs.Wants.{Want}
-use Rattle.columns.specs.Columns.{free, fixed-of, free-weights, leasts, greatests, spreads, spanned, widths-of, least-width, greatest-width, around}
+use Rattle.columns.specs.Columns.{free, fixed-of, free-weights, leasts, greatests, spreads, spanned, columns-of, widths-of, least-width, greatest-width, around}
 
 -- the cell spans 1 to top + 1 of n columns
 abbrev pub Fits : ℕ → ℕ → Want → Type 0
@@ -51,3 +51,22 @@ Spares cs j x = 2 ≤ x .span → x .first ≤ j → j < x .first + x .span → 
 -- a column that no longer span raises has just what its own cells ask, or its fixed width if that is larger
 abbrev pub own-least : Column → ℕ → ℕ
 own-least c own = max (fixed-of c) own
+
+-- What the pass makes of the columns cols that the cells xs ask for.
+pub record Lawful (q : ℕ) (cols : List Column) (xs : List Want) : Type 0 where
+  -- there are as many columns, each sized as it was
+  pub many : length (columns-of q cols xs) ≡ length cols
+  pub sized : map (λ (c : Column). c .sizing) (columns-of q cols xs) ≡ map (λ (c : Column). c .sizing) cols
+  -- every cell, of whatever span, has its minimum
+  pub met : All (Served q (columns-of q cols xs)) xs
+  -- and its maximum, where one of its columns is free
+  pub wide : All (λ x. Open x cols → Wide q (columns-of q cols xs) x) xs
+  -- no least is above its greatest
+  pub ordered : All (λ (x : Want). x .minimum ≤ x .maximum) xs → All Ordered (columns-of q cols xs)
+  pub settled : All Settled (columns-of q cols xs)
+  -- a column that no longer span raises is no wider than its own cells and its fixed width ask
+  pub exact : (j : ℕ) → j < length cols → All (Spares cols j) xs →
+      getD (columns-of q cols xs) j blank-column .least ≡ own-least (getD cols j blank-column) (own-minimum j xs)
+  -- so with no longer span and no fixed column, each least is the largest minimum among its cells
+  pub plain : All (λ (x : Want). x .span ≡ 1) xs → All (λ c. free c ≡ true) cols → (j : ℕ) → j < length cols →
+      getD (columns-of q cols xs) j blank-column .least ≡ own-minimum j xs

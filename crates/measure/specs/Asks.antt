@@ -10,8 +10,9 @@ use Rattle.std.specs.declared.option.Option.{Option}
 use Rattle.std.specs.declared.option.Option.the-variants.{Some, None}
 use Rattle.plan.specs.declared.record.Cell.{Cell}
 use Rattle.plan.specs.declared.record.Column.{Column}
-use Rattle.plan.specs.Steps.{from-to}
-use Rattle.columns.specs.Columns.{over}
+use Rattle.plan.specs.declared.record.Table.{Table}
+use Rattle.plan.specs.Steps.{from-to, columns-of as count-of}
+use Rattle.columns.specs.Columns.{over, columns-of}
 use Rattle.columns.specs.Wants.{Want}
 use Rattle.measure.specs.Bounds.{meet}
 use Rattle.measure.specs.declared.ask.Ask.{Ask}
@@ -54,3 +55,20 @@ step q x cs = over (lifted q (record { least = x .minimum; greatest = x .maximum
 -- no cell asks for s of the n columns of table t
 abbrev pub Absent : ℕ → ℕ → ℕ → List Cell → Type 0
 Absent t n s cs = All (λ c. asks-in t n c ≡ true → c .across ≡ s → ⊥) cs
+
+-- table b with its columns measured for the cells xs; the places past its columns stay as they are
+abbrev pub measured : Table → List Want → Table
+measured b xs =
+    record
+    { columns = over (λ cs. columns-of (b .spacing) cs xs) 0 (count-of b) (b .columns)
+    ; count = b .count
+    ; spacing = b .spacing
+    ; begun = b .begun
+    ; reached = b .reached
+    ; heights = b .heights
+    ; taken = b .taken
+    }
+
+-- what cells ask of the columns of table b, where it is table t
+abbrev pub wants-of : ℕ → Table → List Cell → List Ask → List Want
+wants-of t b cs as′ = wants t (count-of b) cs as′

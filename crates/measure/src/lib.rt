@@ -4,3 +4,4 @@ mod pass;
 mod span;
 
 pub mod ask;
+pub mod table;
