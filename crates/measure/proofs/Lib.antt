@@ -2,3 +2,4 @@ pub mod Deal
 pub mod Lift
 pub mod Marks
 pub mod Walk
+pub mod Give

@@ -56,11 +56,11 @@ step q x cs = over (lifted q (record { least = x .minimum; greatest = x .maximum
 abbrev pub Absent : ℕ → ℕ → ℕ → List Cell → Type 0
 Absent t n s cs = All (λ c. asks-in t n c ≡ true → c .across ≡ s → ⊥) cs
 
--- table b with its columns measured for the cells xs; the places past its columns stay as they are
-abbrev pub measured : Table → List Want → Table
-measured b xs =
+-- table b after f has been done to its columns; the places past them stay as they are
+abbrev pub with-columns : (List Column → List Column) → Table → Table
+with-columns f b =
     record
-    { columns = over (λ cs. columns-of (b .spacing) cs xs) 0 (count-of b) (b .columns)
+    { columns = over f 0 (count-of b) (b .columns)
     ; count = b .count
     ; spacing = b .spacing
     ; begun = b .begun
@@ -68,6 +68,10 @@ measured b xs =
     ; heights = b .heights
     ; taken = b .taken
     }
+
+-- table b with its columns measured for the cells xs
+abbrev pub measured : Table → List Want → Table
+measured b xs = with-columns (λ cs. columns-of (b .spacing) cs xs) b
 
 -- what cells ask of the columns of table b, where it is table t
 abbrev pub wants-of : ℕ → Table → List Cell → List Ask → List Want

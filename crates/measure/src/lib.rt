@@ -2,6 +2,7 @@
 mod column;
 mod pass;
 mod span;
+mod width;
 
 pub mod ask;
 pub mod table;

@@ -1,7 +1,7 @@
 // The columns that a cell spans are raised one after another.
 ghost use mathlib.Core.Path.{_≡_};
 ghost use mathlib.Core.List.{map};
-ghost use Prim.Native.Nat.{_<_, _≤_};
+ghost use Prim.Native.Nat.{_*_, _<_, _≤_};
 ghost use lib.ListN.{length};
 ghost use Rattle.share.specs.Share.{total};
 ghost use Rattle.columns.specs.Columns.{weight};
@@ -16,7 +16,8 @@ use share::part;
 // The sum of one of the bounds.
 pub(crate) fn sum_of(bound: Bound, cols: &[Column]) -> u32
     requires { ⌜ length (now cols) ≤ 32 ⌝ }
-    ensures { λ r. ⌜ r ≡ total (map (bound-of bound) (now (cols .entry))) ⌝ }
+    ensures value { λ r. ⌜ r ≡ total (map (bound-of bound) (now (cols .entry))) ⌝ }
+    ensures small { λ r. ⌜ r ≤ 65535 * 32 ⌝ }
 {
     let mut sum: u32 = 0;
     for c in cols {

@@ -52,4 +52,4 @@ returns c =
         (omega arith) (c .loop-c .inv .0) in
     meet-from (c .args .bound) (c .args .spacing) (c .args .wanted) (c .args .cols .now) (c .loop-c .cols) (c .sum-of-has .result) (c .saturating-sub .result) (c .saturating-sub-need .result)
     all (c .weigh-all-even .result)
-    (c .sum-of-has .ensures) (c .saturating-sub .ensures) (c .saturating-sub-need .ensures) (c .all-share-all .ensures) (c .weigh-all-even .ensures) a
+    (c .sum-of-has .ensures .value) (c .saturating-sub .ensures) (c .saturating-sub-need .ensures) (c .all-share-all .ensures) (c .weigh-all-even .ensures) a
