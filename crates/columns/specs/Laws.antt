@@ -70,3 +70,18 @@ pub record Lawful (q : ℕ) (cols : List Column) (xs : List Want) : Type 0 where
   -- so with no longer span and no fixed column, each least is the largest minimum among its cells
   pub plain : All (λ (x : Want). x .span ≡ 1) xs → All (λ c. free c ≡ true) cols → (j : ℕ) → j < length cols →
       getD (columns-of q cols xs) j blank-column .least ≡ own-minimum j xs
+
+-- What an offer of A gives the columns cs.
+pub record Offered (q : ℕ) (cs : List Column) (A : ℕ) : Type 0 where
+  pub many : length (widths-of q cs A) ≡ length cs
+  -- from the least to the greatest width the offer is filled exactly
+  pub filled : All Ordered cs → least-width q cs ≤ A → A ≤ greatest-width q cs → total (widths-of q cs A) + around q cs ≡ A
+  -- no column is below its least or above its greatest
+  pub between : All Ordered cs → (j : ℕ) → (getD (leasts cs) j 0 ≤ getD (widths-of q cs A) j 0) × (getD (widths-of q cs A) j 0 ≤ getD (greatests cs) j 0)
+  -- at most the least width gives the leasts, at least the greatest width gives the greatests
+  pub short : A ≤ least-width q cs → widths-of q cs A ≡ leasts cs
+  pub ample : All Ordered cs → greatest-width q cs ≤ A → widths-of q cs A ≡ greatests cs
+  -- what a stretch of neighbours grows past its leasts is off its exact share, by its spreads, by less than 1
+  pub fair : All Ordered cs → least-width q cs ≤ A → A ≤ greatest-width q cs → 0 < total (spreads cs) → (i k : ℕ) →
+      ((stretch i k (widths-of q cs A) - stretch i k (leasts cs)) * total (spreads cs) < (A - least-width q cs) * stretch i k (spreads cs) + total (spreads cs))
+      × ((A - least-width q cs) * stretch i k (spreads cs) < (stretch i k (widths-of q cs A) - stretch i k (leasts cs)) * total (spreads cs) + total (spreads cs))

@@ -3,3 +3,4 @@ pub mod Lift
 pub mod Marks
 pub mod Walk
 pub mod Give
+pub mod Whole

@@ -4,7 +4,7 @@ use mathlib.Core.Path.{_≡_}
 use mathlib.Core.List.{List, [], _∷_, map}
 use Prim.Native.Nat.{ℕ, _+_, max}
 use lib.Dec.{leb, ltb, eqb}
-use lib.ListN.{length, getD}
+use lib.ListN.{length, take, getD}
 use Rattle.std.specs.shelf.Lists.{All}
 use Rattle.std.specs.declared.option.Option.{Option}
 use Rattle.std.specs.declared.option.Option.the-variants.{Some, None}
@@ -55,6 +55,10 @@ step q x cs = over (lifted q (record { least = x .minimum; greatest = x .maximum
 -- no cell asks for s of the n columns of table t
 abbrev pub Absent : ℕ → ℕ → ℕ → List Cell → Type 0
 Absent t n s cs = All (λ c. asks-in t n c ≡ true → c .across ≡ s → ⊥) cs
+
+-- the columns that table b has
+abbrev pub own-columns : Table → List Column
+own-columns b = take (count-of b) (b .columns)
 
 -- table b after f has been done to its columns; the places past them stay as they are
 abbrev pub with-columns : (List Column → List Column) → Table → Table

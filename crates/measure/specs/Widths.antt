@@ -21,5 +21,5 @@ abbrev pub given-of : ℕ → ℕ → List Column → List Column
 given-of q A cs = with-widths (widths-of q cs A) cs
 
 -- table b after an offer of A
-abbrev pub offered : Table → ℕ → Table
-offered b A = with-columns (given-of (b .spacing) A) b
+abbrev pub offered-to : Table → ℕ → Table
+offered-to b A = with-columns (given-of (b .spacing) A) b
