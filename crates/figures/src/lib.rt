@@ -8,5 +8,5 @@ pub fn figures_hold() -> usize
     ensures hold { λ _. ⌜ Figures-hold ⌝ }
     ensures count { λ r. ⌜ r ≡ length figures ⌝ }
 {
-    3
+    13
 }
