@@ -12,7 +12,7 @@ use text::shelves::BlockShelfShelf;
 use text::shelves::TextShelf;
 use text::shelves::TextShelfShelf;
 
-// A file that is one content, at a width: its bytes, its least and greatest width, the width, and its lines there.
+// A file that is one content, at a width: its bytes, its least and greatest width, the width, and its page there.
 pub(crate) type Case<'a> = (&'a [u8], u16, u16, u16, &'a [u8]);
 
 // What an array is filled with before places are put into it.

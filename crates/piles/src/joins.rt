@@ -29,25 +29,21 @@ enum Join {
     Under(Pile),
     // a frame over the texts with padding and the blocks with a frame joined
     Over,
-    // the texts and blocks joined, and then joined with the texts again
-    Twice,
 }
 
-fn check_joined<A: Shelf + Copy, B: Shelf + Copy>(
+fn check_joined<A: Shelf + Drop, B: Shelf + Drop>(
     join: Join,
     first: A,
     second: B,
     contents: &[Content],
 ) -> Result<(), Fail> {
-    let both = Joined::new(first, second);
     match join {
-        Join::Under(pile) => check_pile(pile, both, contents),
+        Join::Under(pile) => check_pile(pile, Joined::new(first, second), contents),
         Join::Over => check_pile(
             Pile::Frame(1),
             Joined::new(Padding::new(first, 1)?, Frame::new(second, 1)?),
             contents,
         ),
-        Join::Twice => check_shelf(&Joined::new(both, first), contents),
     }
 }
 
@@ -159,21 +155,6 @@ fn frame_over_joined_layers() -> Result<(), Fail> {
             (1, 7, 7, 7, SECOND),
             (2, 6, 6, 6, THIRD),
             (3, 5, 5, 8, FOURTH),
-        ],
-    )
-}
-
-#[test]
-fn joined_twice() -> Result<(), Fail> {
-    check_join(
-        Join::Twice,
-        &[
-            (0, 3, 8, 4, b"a bbccc "),
-            (1, 3, 8, 3, b"a  bb ccc"),
-            (2, 3, 3, 3, b"x   yy"),
-            (3, 2, 2, 5, b"<d   "),
-            (4, 2, 2, 2, b"<d"),
-            (6, 1, 1, 2, b"  x   "),
         ],
     )
 }

@@ -1,4 +1,4 @@
-// What is refused, and with which number where several would do.
+// What is no content, and which layers there are not.
 use crate::files::*;
 use crate::pages::*;
 use crate::pile::*;
@@ -8,8 +8,6 @@ use layers::padding::Padding;
 use letters::Kind;
 use shelf::Shelf;
 use std::test::*;
-use text::shelves::BlockShelf;
-use text::shelves::BlockShelfShelf;
 use text::shelves::TextShelf;
 use text::shelves::TextShelfShelf;
 
@@ -121,50 +119,9 @@ fn places_outside_the_file() -> Result<(), Fail> {
 
 #[test]
 fn no_places() -> Result<(), Fail> {
-    let mut room = [UNUSED; 2];
-    let places = listed(&mut room, &[])?;
-    check_absent(&TextShelf::new(b"abc", &places), 0)?;
-    check_absent(&BlockShelf::new(b"abc", &places), 0)
-}
-
-// Its least width is past the widest line, so no width will do.
-#[test]
-fn a_word_of_2001() -> Result<(), Fail> {
-    let file = [b'x'; 2001];
-    let mut room = [UNUSED];
-    let places = listed(&mut room, &[(0, 2001)])?;
-    check_widths(&TextShelf::new(&file, &places), 0, 2001, 2001)
-}
-
-// Content 0 has 3 or 4 lines at width 3 and is wider than 1, and content 1 is not there. What is asked is wrong in more than one way, or
-// only in the last one: not on the shelf, then the width, then the line, then the slice.
-fn check_order<S: Shelf>(shelf: &S) -> Result<(), Fail> {
-    let cases = [
-        (1, 1, 4, 2, 9),
-        (1, 3, 4, 2, 9),
-        (1, 3, 0, 2, 9),
-        (0, 1, 4, 2, 14),
-        (0, 1, 0, 2, 14),
-        (0, 2001, 0, 2000, 14),
-        (0, 3, 4, 2, 15),
-        (0, 3, 65535, 4, 15),
-        (0, 3, 4, 3, 15),
-        (0, 3, 0, 0, 16),
-        (0, 3, 0, 2, 16),
-        (0, 3, 2, 4, 16),
-    ];
-    for (k, w, r, n, number) in cases {
-        check_line_refused(shelf, k, w, r, n, number)?;
-    }
-    Ok(())
-}
-
-#[test]
-fn the_first_refusal_counts() -> Result<(), Fail> {
-    let mut room = [UNUSED; 2];
-    let places = listed(&mut room, &[(0, 8), (0, 9)])?;
-    check_order(&TextShelf::new(b"a bb ccc", &places))?;
-    check_order(&BlockShelf::new(b"a\nb\nc\nde", &places))
+    let contents: [Content; 1] = [(0, 3, 3, 3, b"abc")];
+    check_file(Kind::Text, Pile::Bare, b"abc", &[], &contents[1..])?;
+    check_file(Kind::Block, Pile::Bare, b"abc", &[], &contents[1..])
 }
 
 fn check_sizes<S: Shelf + Copy>(below: S) -> Result<(), Fail> {
@@ -182,6 +139,5 @@ fn check_sizes<S: Shelf + Copy>(below: S) -> Result<(), Fail> {
 fn sizes() -> Result<(), Fail> {
     let mut room = [UNUSED];
     let places = listed(&mut room, &[(0, 3)])?;
-    check_sizes(TextShelf::new(b"abc", &places))?;
-    check_sizes(BlockShelf::new(b"abc", &places))
+    check_sizes(TextShelf::new(b"abc", &places))
 }
