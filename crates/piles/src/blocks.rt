@@ -104,15 +104,6 @@ fn references_and_plain_characters() -> Result<(), Fail> {
     )
 }
 
-// A block has no white space but blanks and newlines.
-#[test]
-fn tabs_and_returns() -> Result<(), Fail> {
-    check_none(
-        Kind::Block,
-        &[b"\t", b"\r", b"a\tb", b"a\r\nb", b"a\nb\r", b" \t\n"],
-    )
-}
-
 #[test]
 fn wide_lines() -> Result<(), Fail> {
     check_each(
@@ -131,7 +122,7 @@ fn wide_lines() -> Result<(), Fail> {
 #[test]
 fn stretches_of_a_file() -> Result<(), Fail> {
     check_file(
-        Kind::Block,
+        Base::Only(Kind::Block),
         Pile::Bare,
         b"\t ab\n\nc \r",
         &[(1, 8), (3, 7), (8, 8), (3, 4), (0, 8), (1, 9)],

@@ -183,7 +183,7 @@ fn a_word_after_one_of_2000() -> Result<(), Fail> {
 #[test]
 fn stretches_of_a_file() -> Result<(), Fail> {
     check_file(
-        Kind::Text,
+        Base::Only(Kind::Text),
         Pile::Bare,
         b"<ba bb ccc>",
         &[(2, 10), (4, 8), (0, 0), (11, 11), (5, 6), (2, 10), (0, 11)],
