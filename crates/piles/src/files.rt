@@ -112,7 +112,7 @@ pub(crate) fn check_each(kind: Kind, pile: Pile, cases: &[Case]) -> Result<(), F
     Ok(())
 }
 
-// No whole file is a text or a block, though its first no bytes are both.
+// No whole file is a text or a block, though the stretch of no bytes at its start is both.
 pub(crate) fn check_neither(files: &[&[u8]]) -> Result<(), Fail> {
     for file in files {
         check_file(

@@ -1,4 +1,4 @@
-// One layer over texts or blocks. In a page whose lines begin with a blank it is written \x20, since a bare one would be skipped there.
+// One layer over texts or blocks. A blank that begins a line of a page is written \x20, since a bare one would be skipped.
 use crate::files::*;
 use crate::pile::*;
 use letters::Kind;

@@ -42,9 +42,10 @@ fn check_widths<S: Shelf>(shelf: &S, k: u16, least: u16, most: u16) -> Result<()
 
 // Content k at width w is the page. A page without a line says that the content is not set at that width.
 fn check_page<S: Shelf>(shelf: &S, k: u16, w: u16, page: &[u8]) -> Result<(), Fail> {
-    if page.len() == 0 || w == 0 {
+    if page.len() == 0 {
         return check_unfit(shelf, k, w);
     }
+    check(w > 0)?;
     let mut r = 0u16;
     for line in page.chunks_exact(w as usize) {
         check_line(shelf, k, w, r, line)?;

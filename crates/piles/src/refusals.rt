@@ -114,6 +114,7 @@ fn tabs_and_returns() -> Result<(), Fail> {
     )
 }
 
+// The table of contents is empty.
 #[test]
 fn no_places() -> Result<(), Fail> {
     let contents: [Content; 1] = [(0, 3, 3, 3, b"abc")];
