@@ -1,0 +1,11 @@
+// Tests alone: sheets are built call by call, and every answer and all that a sheet then holds is held to what the rules give.
+#[cfg(test)]
+mod rows;
+#[cfg(test)]
+mod sheets;
+#[cfg(test)]
+mod sights;
+#[cfg(test)]
+mod starts;
+#[cfg(test)]
+mod steps;
