@@ -1,5 +1,11 @@
 // Tests alone: sheets are built call by call, and every answer and all that a sheet then holds is held to what the rules give.
 #[cfg(test)]
+mod nests;
+#[cfg(test)]
+mod orders;
+#[cfg(test)]
+mod places;
+#[cfg(test)]
 mod rows;
 #[cfg(test)]
 mod sheets;
@@ -9,3 +15,5 @@ mod sights;
 mod starts;
 #[cfg(test)]
 mod steps;
+#[cfg(test)]
+mod widths;

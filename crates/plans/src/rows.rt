@@ -1,13 +1,8 @@
 // Beginning rows.
 use crate::sheets::*;
-use crate::sights::*;
 use crate::steps::Answer::*;
 use crate::steps::Step::*;
-use crate::steps::*;
-use engine::Sheet;
-use plan::Cell;
 use plan::Holds::*;
-use plan::Table;
 use std::test::*;
 
 #[test]
@@ -34,24 +29,24 @@ fn no_such_table() -> Result<(), Fail> {
     )
 }
 
-// So many rows are begun in a table of 5 columns and spacing 1.
-fn check_begun(sheet: &Sheet, n: u8) -> Result<(), Fail> {
-    check_eq(see_table(sheet, 0), expected_table(&[(5, 1, n, n)], &[], 0))
-}
-
+// 64 rows are begun one after the other, and then none more.
 #[test]
 fn as_many_as_64() -> Result<(), Fail> {
-    let mut tables = [Table::new(9, 9); 1];
-    let mut cells = [Cell::blank(); 1];
-    let mut sheet = Sheet::new(&mut tables, &mut cells);
-    check_eq(carry_out(&mut sheet, Start(5, 1)), Done)?;
+    let mut cases = [(Row(0), Done); 67];
+    cases[0] = (Start(5, 1), Done);
+    cases[65] = (Row(0), Refused(6));
+    cases[66] = (Row(0), Refused(6));
+    check_run((1, 1), &cases, &[(5, 1, 64, 64)], &[], &[])?;
     for n in 0..64 {
-        check_begun(&sheet, n)?;
-        check_eq(carry_out(&mut sheet, Row(0)), Done)?;
+        check_run(
+            (1, 1),
+            &[(Start(5, 1), Done), (Rows(0, n), Done)],
+            &[(5, 1, n, n)],
+            &[],
+            &[],
+        )?;
     }
-    check_eq(carry_out(&mut sheet, Row(0)), Refused(6))?;
-    check_eq(carry_out(&mut sheet, Row(0)), Refused(6))?;
-    check_begun(&sheet, 64)
+    Ok(())
 }
 
 // The rows that a cell reaches count once they are begun, and not twice.
