@@ -1,10 +1,14 @@
 // Tests alone: sheets are built call by call, and every answer and all that a sheet then holds is held to what the rules give.
 #[cfg(test)]
+mod limits;
+#[cfg(test)]
 mod nests;
 #[cfg(test)]
 mod orders;
 #[cfg(test)]
 mod places;
+#[cfg(test)]
+mod roomy;
 #[cfg(test)]
 mod rows;
 #[cfg(test)]
@@ -15,5 +19,7 @@ mod sights;
 mod starts;
 #[cfg(test)]
 mod steps;
+#[cfg(test)]
+mod tight;
 #[cfg(test)]
 mod widths;
