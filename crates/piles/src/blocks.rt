@@ -5,28 +5,23 @@ use letters::Kind;
 use std::test::*;
 
 #[test]
-fn one_line() -> Result<(), Fail> {
+fn one_line_or_none() -> Result<(), Fail> {
     check_each(
         Kind::Block,
         Pile::Bare,
         &[
+            (b"", 1, 1, 1, b" "),
+            (b"", 1, 1, 3, b"   "),
+            (b"abc", 3, 3, 2, b""),
             (b"abc", 3, 3, 3, b"abc"),
             (b"abc", 3, 3, 4, b"abc "),
             (b"abc", 3, 3, 9, b"abc      "),
+            (b"abc", 3, 3, 2001, b""),
             (b"x", 1, 1, 1, b"x"),
             (b"x", 1, 1, 2, b"x "),
             (b"two words", 9, 9, 9, b"two words"),
             (b"two words", 9, 9, 12, b"two words   "),
         ],
-    )
-}
-
-#[test]
-fn no_bytes() -> Result<(), Fail> {
-    check_each(
-        Kind::Block,
-        Pile::Bare,
-        &[(b"", 1, 1, 1, b" "), (b"", 1, 1, 3, b"   ")],
     )
 }
 
@@ -81,7 +76,7 @@ fn blanks_are_kept() -> Result<(), Fail> {
 }
 
 #[test]
-fn references() -> Result<(), Fail> {
+fn references_and_plain_characters() -> Result<(), Fail> {
     check_each(
         Kind::Block,
         Pile::Bare,
@@ -91,16 +86,6 @@ fn references() -> Result<(), Fail> {
             (b"&amp;lt;\n &amp; ", 4, 4, 4, b"&lt; &  "),
             (b"&lt;\n&gt;\n&amp;\n&quot;", 1, 1, 1, b"<>&\""),
             (b"&lt;\n&gt;\n&amp;\n&quot;", 1, 1, 2, b"< > & \" "),
-        ],
-    )
-}
-
-#[test]
-fn plain_characters() -> Result<(), Fail> {
-    check_each(
-        Kind::Block,
-        Pile::Bare,
-        &[
             (
                 b"a > \"b\" = /c;\n#'~!",
                 13,
@@ -119,35 +104,25 @@ fn plain_characters() -> Result<(), Fail> {
     )
 }
 
-// A block has no white space but blanks and newlines.
 #[test]
-fn tabs_and_returns() -> Result<(), Fail> {
-    check_none(
-        Kind::Block,
-        &[b"\t", b"\r", b"a\tb", b"a\r\nb", b"a\nb\r", b" \t\n"],
-    )
-}
-
-// A line of 2000 and one of 1, then the short one alone.
-#[test]
-fn a_line_of_2000() -> Result<(), Fail> {
-    let mut file = [b'y'; 2002];
-    file[2000] = b'\n';
-    let mut page = [b' '; 4000];
-    page[0..2000].fill(b'y');
-    page[2000] = b'y';
-    check_each(Kind::Block, Pile::Bare, &[(&file, 2000, 2000, 2000, &page)])?;
+fn wide_lines() -> Result<(), Fail> {
     check_each(
         Kind::Block,
         Pile::Bare,
-        &[(&file[2001..], 1, 1, 2000, &page[2000..])],
+        &[
+            (&[b'y'; 2000], 2000, 2000, 2000, &[b'y'; 2000]),
+            (&[b'y'; 2000], 2000, 2000, 1999, b""),
+            (&[b'y'; 2000], 2000, 2000, 2001, b""),
+            (&[b' '; 2001], 2001, 2001, 2001, b""),
+            (b"\n", 1, 1, 2000, &[b' '; 4000]),
+        ],
     )
 }
 
 #[test]
 fn stretches_of_a_file() -> Result<(), Fail> {
     check_file(
-        Kind::Block,
+        Base::Only(Kind::Block),
         Pile::Bare,
         b"\t ab\n\nc \r",
         &[(1, 8), (3, 7), (8, 8), (3, 4), (0, 8), (1, 9)],

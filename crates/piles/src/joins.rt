@@ -1,82 +1,33 @@
 // Texts and blocks joined, under layers and over them.
 use crate::files::*;
-use crate::pages::*;
 use crate::pile::*;
-use fault::FaultDebug;
-use layers::frame::Frame;
-use layers::frame::FrameShelf;
-use layers::joined::Joined;
-use layers::joined::JoinedShelf;
-use layers::padding::Padding;
-use layers::padding::PaddingShelf;
-use shelf::Shelf;
 use std::test::*;
-use text::shelves::BlockShelf;
-use text::shelves::BlockShelfShelf;
-use text::shelves::TextShelf;
-use text::shelves::TextShelfShelf;
 
-// Where the texts and the blocks of this file stand. The last of each is none: in one a reference is cut, the other ends in a lone &.
-const FILE: &[u8] = b"a bb ccc &lt;d\nx\n yy&";
+// Three places of this file, each both a text and a block, but for the third, which has a tab and is no block, and a fourth, which is
+// neither.
+const FILE: &[u8] = b"a bb\n&lt;d \tx<";
 
-const TEXTS: [(usize, usize); 3] = [(0, 8), (9, 14), (9, 12)];
-
-const BLOCKS: [(usize, usize); 3] = [(15, 20), (14, 17), (15, 21)];
-
-#[derive(Clone, Copy)]
-enum Join {
-    // the layers over the texts and blocks joined
-    Under(Pile),
-    // a frame over the texts with padding and the blocks with a frame joined
-    Over,
-    // the texts and blocks joined, and then joined with the texts again
-    Twice,
-}
-
-fn check_joined<A: Shelf + Copy, B: Shelf + Copy>(
-    join: Join,
-    first: A,
-    second: B,
-    contents: &[Content],
-) -> Result<(), Fail> {
-    let both = Joined::new(first, second);
-    match join {
-        Join::Under(pile) => check_pile(pile, both, contents),
-        Join::Over => check_pile(
-            Pile::Frame(1),
-            Joined::new(Padding::new(first, 1)?, Frame::new(second, 1)?),
-            contents,
-        ),
-        Join::Twice => check_shelf(&Joined::new(both, first), contents),
-    }
-}
-
-fn check_join(join: Join, contents: &[Content]) -> Result<(), Fail> {
-    let mut text_room = [UNUSED; 3];
-    let mut block_room = [UNUSED; 3];
-    let texts = listed(&mut text_room, &TEXTS)?;
-    let blocks = listed(&mut block_room, &BLOCKS)?;
-    check_joined(
-        join,
-        TextShelf::new(FILE, &texts),
-        BlockShelf::new(FILE, &blocks),
-        contents,
-    )
-}
+const ENDS: [(usize, usize); 4] = [(0, 11), (5, 11), (9, 13), (12, 14)];
 
 #[test]
 fn joined_alone() -> Result<(), Fail> {
-    check_join(
-        Join::Under(Pile::Bare),
+    check_file(
+        Base::Joined,
+        Pile::Bare,
+        FILE,
+        &ENDS,
         &[
-            (0, 3, 8, 3, b"a  bb ccc"),
-            (0, 3, 8, 5, b"a bb ccc  "),
-            (1, 3, 3, 3, b"x   yy"),
-            (1, 3, 3, 4, b"x    yy "),
+            (0, 2, 7, 2, b"a bb<d"),
+            (0, 2, 7, 4, b"a bb<d  "),
+            (0, 2, 7, 7, b"a bb <d"),
+            (1, 4, 4, 4, b"a bb<d  "),
+            (1, 4, 4, 5, b"a bb <d   "),
             (2, 2, 2, 2, b"<d"),
             (2, 2, 2, 3, b"<d "),
-            (3, 1, 1, 1, b" x "),
-            (3, 1, 1, 2, b"  x   "),
+            (3, 3, 3, 3, b"<d "),
+            (3, 3, 3, 4, b"<d  "),
+            (4, 1, 3, 1, b"dx"),
+            (4, 1, 3, 3, b"d x"),
         ],
     )
 }
@@ -84,17 +35,16 @@ fn joined_alone() -> Result<(), Fail> {
 #[test]
 fn frame_over_padding_over_joined() -> Result<(), Fail> {
     const FIRST: &[u8] = b"\
-        +------+\
-        |      |\
-        | a bb |\
-        | ccc  |\
-        |      |\
-        +------+";
+        +---------+\
+        |         |\
+        | a bb <d |\
+        |         |\
+        +---------+";
     const SECOND: &[u8] = b"\
         +-------+\
         |       |\
-        | x     |\
-        |  yy   |\
+        | a bb  |\
+        | <d    |\
         |       |\
         +-------+";
     const THIRD: &[u8] = b"\
@@ -104,20 +54,29 @@ fn frame_over_padding_over_joined() -> Result<(), Fail> {
         |    |\
         +----+";
     const FOURTH: &[u8] = b"\
+        +-----+\
+        |     |\
+        | <d  |\
+        |     |\
+        +-----+";
+    const FIFTH: &[u8] = b"\
         +---+\
         |   |\
-        |   |\
+        | d |\
         | x |\
         |   |\
-        |   |\
         +---+";
-    check_join(
-        Join::Under(Pile::FramePadding(1)),
+    check_file(
+        Base::Joined,
+        Pile::FramePadding(1),
+        FILE,
+        &ENDS,
         &[
-            (0, 7, 12, 8, FIRST),
-            (1, 7, 7, 9, SECOND),
+            (0, 6, 11, 11, FIRST),
+            (1, 8, 8, 9, SECOND),
             (2, 6, 6, 6, THIRD),
-            (3, 5, 5, 5, FOURTH),
+            (3, 7, 7, 7, FOURTH),
+            (4, 5, 7, 5, FIFTH),
         ],
     )
 }
@@ -125,19 +84,20 @@ fn frame_over_padding_over_joined() -> Result<(), Fail> {
 #[test]
 fn frame_over_joined_layers() -> Result<(), Fail> {
     const FIRST: &[u8] = b"\
-        +--------+\
-        |        |\
-        | a bb   |\
-        | ccc    |\
-        |        |\
-        +--------+";
+        +----+\
+        |    |\
+        | a  |\
+        | bb |\
+        | <d |\
+        |    |\
+        +----+";
     const SECOND: &[u8] = b"\
-        +-----+\
-        |+---+|\
-        ||x  ||\
-        || yy||\
-        |+---+|\
-        +-----+";
+        +------+\
+        |+----+|\
+        ||a bb||\
+        ||<d  ||\
+        |+----+|\
+        +------+";
     const THIRD: &[u8] = b"\
         +----+\
         |    |\
@@ -145,35 +105,28 @@ fn frame_over_joined_layers() -> Result<(), Fail> {
         |    |\
         +----+";
     const FOURTH: &[u8] = b"\
-        +------+\
-        |+----+|\
-        ||    ||\
-        ||x   ||\
-        ||    ||\
-        |+----+|\
-        +------+";
-    check_join(
-        Join::Over,
+        +-------+\
+        |+-----+|\
+        ||<d   ||\
+        |+-----+|\
+        +-------+";
+    const FIFTH: &[u8] = b"\
+        +-----+\
+        |     |\
+        | d x |\
+        |     |\
+        +-----+";
+    check_file(
+        Base::Layered,
+        Pile::Frame(1),
+        FILE,
+        &ENDS,
         &[
-            (0, 7, 12, 10, FIRST),
-            (1, 7, 7, 7, SECOND),
+            (0, 6, 11, 6, FIRST),
+            (1, 8, 8, 8, SECOND),
             (2, 6, 6, 6, THIRD),
-            (3, 5, 5, 8, FOURTH),
-        ],
-    )
-}
-
-#[test]
-fn joined_twice() -> Result<(), Fail> {
-    check_join(
-        Join::Twice,
-        &[
-            (0, 3, 8, 4, b"a bbccc "),
-            (1, 3, 8, 3, b"a  bb ccc"),
-            (2, 3, 3, 3, b"x   yy"),
-            (3, 2, 2, 5, b"<d   "),
-            (4, 2, 2, 2, b"<d"),
-            (6, 1, 1, 2, b"  x   "),
+            (3, 7, 7, 9, FOURTH),
+            (4, 5, 7, 7, FIFTH),
         ],
     )
 }

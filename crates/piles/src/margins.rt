@@ -1,4 +1,4 @@
-// One layer over texts or blocks. In a page whose lines begin with a blank it is written \x20, since a bare one would be skipped there.
+// One layer over texts or blocks. A blank that begins a line of a page is written \x20, since a bare one would be skipped.
 use crate::files::*;
 use crate::pile::*;
 use letters::Kind;
@@ -114,32 +114,65 @@ fn padding_3() -> Result<(), Fail> {
     )
 }
 
-// A page of 17 lines of 17 places with a letter in the middle, and one of 18 lines of 19.
 #[test]
 fn padding_8() -> Result<(), Fail> {
-    let mut text = [b' '; 289];
-    text[8 * 17 + 8] = b'a';
-    check_each(Kind::Text, Pile::Padding(8), &[(b" a ", 17, 17, 17, &text)])?;
-    let mut block = [b' '; 342];
-    block[8 * 19 + 8] = b'a';
-    block[9 * 19 + 8] = b'b';
+    const TEXT: &[u8] = b"\
+        \x20                \
+        \x20                \
+        \x20                \
+        \x20                \
+        \x20                \
+        \x20                \
+        \x20                \
+        \x20                \
+        \x20       a        \
+        \x20       b        \
+        \x20                \
+        \x20                \
+        \x20                \
+        \x20                \
+        \x20                \
+        \x20                \
+        \x20                \
+        \x20                ";
+    check_each(Kind::Text, Pile::Padding(8), &[(b" a b", 17, 19, 17, TEXT)])?;
+    const BLOCK: &[u8] = b"\
+        \x20                 \
+        \x20                 \
+        \x20                 \
+        \x20                 \
+        \x20                 \
+        \x20                 \
+        \x20                 \
+        \x20                 \
+        \x20       &         \
+        \x20                 \
+        \x20                 \
+        \x20                 \
+        \x20                 \
+        \x20                 \
+        \x20                 \
+        \x20                 \
+        \x20                 ";
     check_each(
         Kind::Block,
         Pile::Padding(8),
-        &[(b"a\nb", 17, 17, 19, &block)],
+        &[(b"&amp;", 17, 17, 18, BLOCK)],
     )
 }
 
 // A word of 1998 has room for padding 1 on a line of 2000.
 #[test]
 fn padding_at_2000() -> Result<(), Fail> {
-    let word = [b'x'; 1998];
     let mut page = [b' '; 6000];
     page[2001..3999].fill(b'x');
     check_each(
         Kind::Text,
         Pile::Padding(1),
-        &[(&word, 2000, 2000, 2000, &page)],
+        &[
+            (&[b'x'; 1998], 2000, 2000, 2000, &page),
+            (&[b'x'; 1999], 2001, 2001, 2000, b""),
+        ],
     )
 }
 

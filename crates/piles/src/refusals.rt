@@ -1,22 +1,14 @@
-// What is refused, and with which number where several would do.
+// What is no content, and which layers there are not. Where texts and blocks are joined, the texts have the even numbers.
 use crate::files::*;
 use crate::pages::*;
 use crate::pile::*;
 use fault::FaultDebug;
 use layers::frame::Frame;
 use layers::padding::Padding;
-use letters::Kind;
 use shelf::Shelf;
 use std::test::*;
-use text::shelves::BlockShelf;
-use text::shelves::BlockShelfShelf;
 use text::shelves::TextShelf;
 use text::shelves::TextShelfShelf;
-
-fn check_neither(files: &[&[u8]]) -> Result<(), Fail> {
-    check_none(Kind::Text, files)?;
-    check_none(Kind::Block, files)
-}
 
 #[test]
 fn markup() -> Result<(), Fail> {
@@ -66,113 +58,73 @@ fn other_bytes() -> Result<(), Fail> {
 
 #[test]
 fn a_reference_cut_by_the_end() -> Result<(), Fail> {
-    let ends = [(0, 3), (0, 4), (1, 4), (0, 2), (0, 1), (1, 3)];
     check_file(
-        Kind::Text,
+        Base::Joined,
         Pile::Bare,
         b"&lt;",
-        &ends,
+        &[(0, 3), (0, 4), (0, 1), (1, 4)],
         &[
-            (1, 1, 1, 1, b"<"),
-            (2, 3, 3, 3, b"lt;"),
-            (5, 2, 2, 2, b"lt"),
-        ],
-    )?;
-    check_file(
-        Kind::Block,
-        Pile::Bare,
-        b"&lt;",
-        &ends,
-        &[
-            (1, 1, 1, 1, b"<"),
-            (2, 3, 3, 3, b"lt;"),
-            (5, 2, 2, 2, b"lt"),
+            (2, 1, 1, 1, b"<"),
+            (3, 1, 1, 1, b"<"),
+            (6, 3, 3, 3, b"lt;"),
+            (7, 3, 3, 3, b"lt;"),
         ],
     )
 }
 
-// A first byte past the last, a last past the end, both past the end; only the sixth place lies in the file.
+// A first byte past the last, a last past the end, both past the end; only the third place lies in the file.
 #[test]
 fn places_outside_the_file() -> Result<(), Fail> {
-    let ends = [
-        (2, 1),
-        (0, 4),
-        (4, 4),
-        (3, 2),
-        (0, usize::MAX),
-        (0, 3),
-        (usize::MAX, 0),
-    ];
     check_file(
-        Kind::Text,
+        Base::Joined,
         Pile::Bare,
         b"abc",
-        &ends,
-        &[(5, 3, 3, 3, b"abc")],
-    )?;
-    check_file(
-        Kind::Block,
-        Pile::Bare,
-        b"abc",
-        &ends,
-        &[(5, 3, 3, 3, b"abc")],
+        &[
+            (2, 1),
+            (0, 4),
+            (0, 3),
+            (4, 4),
+            (usize::MAX, 0),
+            (0, usize::MAX),
+        ],
+        &[(4, 3, 3, 3, b"abc"), (5, 3, 3, 3, b"abc")],
     )
 }
 
+// A text has tabs and carriage returns, and a block has none.
+#[test]
+fn tabs_and_returns() -> Result<(), Fail> {
+    check_file(
+        Base::Joined,
+        Pile::Bare,
+        b"\ta\tb\r\nc\r",
+        &[(0, 1), (1, 4), (4, 5), (3, 7), (5, 8), (5, 7)],
+        &[
+            (0, 1, 1, 1, b" "),
+            (2, 1, 3, 1, b"ab"),
+            (2, 1, 3, 3, b"a b"),
+            (4, 1, 1, 1, b" "),
+            (6, 1, 3, 1, b"bc"),
+            (6, 1, 3, 3, b"b c"),
+            (8, 1, 1, 1, b"c"),
+            (10, 1, 1, 1, b"c"),
+            (11, 1, 1, 1, b" c"),
+            (11, 1, 1, 2, b"  c "),
+        ],
+    )
+}
+
+// The table of contents is empty.
 #[test]
 fn no_places() -> Result<(), Fail> {
-    let mut room = [UNUSED; 2];
-    let places = listed(&mut room, &[])?;
-    check_absent(&TextShelf::new(b"abc", &places), 0)?;
-    check_absent(&BlockShelf::new(b"abc", &places), 0)
-}
-
-// Its least width is past the widest line, so no width will do.
-#[test]
-fn a_word_of_2001() -> Result<(), Fail> {
-    let file = [b'x'; 2001];
-    let mut room = [UNUSED];
-    let places = listed(&mut room, &[(0, 2001)])?;
-    check_widths(&TextShelf::new(&file, &places), 0, 2001, 2001)
-}
-
-// Content 0 has 3 or 4 lines at width 3 and is wider than 1, and content 1 is not there. What is asked is wrong in more than one way, or
-// only in the last one: not on the shelf, then the width, then the line, then the slice.
-fn check_order<S: Shelf>(shelf: &S) -> Result<(), Fail> {
-    let cases = [
-        (1, 1, 4, 2, 9),
-        (1, 3, 4, 2, 9),
-        (1, 3, 0, 2, 9),
-        (0, 1, 4, 2, 14),
-        (0, 1, 0, 2, 14),
-        (0, 2001, 0, 2000, 14),
-        (0, 3, 4, 2, 15),
-        (0, 3, 65535, 4, 15),
-        (0, 3, 4, 3, 15),
-        (0, 3, 0, 0, 16),
-        (0, 3, 0, 2, 16),
-        (0, 3, 2, 4, 16),
-    ];
-    for (k, w, r, n, number) in cases {
-        check_line_refused(shelf, k, w, r, n, number)?;
-    }
-    Ok(())
-}
-
-#[test]
-fn the_first_refusal_counts() -> Result<(), Fail> {
-    let mut room = [UNUSED; 2];
-    let places = listed(&mut room, &[(0, 8), (0, 9)])?;
-    check_order(&TextShelf::new(b"a bb ccc", &places))?;
-    check_order(&BlockShelf::new(b"a\nb\nc\nde", &places))
+    let contents: [Content; 1] = [(0, 3, 3, 3, b"abc")];
+    check_file(Base::Joined, Pile::Bare, b"abc", &[], &contents[1..])
 }
 
 fn check_sizes<S: Shelf + Copy>(below: S) -> Result<(), Fail> {
-    for size in [9, 10, 255] {
-        check_refused(Padding::new(below, size), 1)?;
-    }
-    for size in [2, 3, 255] {
-        check_refused(Frame::new(below, size), 1)?;
+    for (padding, frame) in [(9, 2), (10, 3), (255, 255)] {
+        check_refused(Padding::new(below, padding), 1)?;
+        check_refused(Frame::new(below, frame), 1)?;
     }
     Ok(())
 }
@@ -182,6 +134,5 @@ fn check_sizes<S: Shelf + Copy>(below: S) -> Result<(), Fail> {
 fn sizes() -> Result<(), Fail> {
     let mut room = [UNUSED];
     let places = listed(&mut room, &[(0, 3)])?;
-    check_sizes(TextShelf::new(b"abc", &places))?;
-    check_sizes(BlockShelf::new(b"abc", &places))
+    check_sizes(TextShelf::new(b"abc", &places))
 }

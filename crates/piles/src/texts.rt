@@ -10,12 +10,14 @@ fn words_fill_lines() -> Result<(), Fail> {
         Kind::Text,
         Pile::Bare,
         &[
+            (b"a bb ccc", 3, 8, 2, b""),
             (b"a bb ccc", 3, 8, 3, b"a  bb ccc"),
             (b"a bb ccc", 3, 8, 4, b"a bbccc "),
             (b"a bb ccc", 3, 8, 5, b"a bb ccc  "),
             (b"a bb ccc", 3, 8, 7, b"a bb   ccc    "),
             (b"a bb ccc", 3, 8, 8, b"a bb ccc"),
             (b"a bb ccc", 3, 8, 10, b"a bb ccc  "),
+            (b"a bb ccc", 3, 8, 2001, b""),
             (b"one", 3, 3, 3, b"one"),
             (b"one", 3, 3, 4, b"one "),
             (b"a b c d e", 1, 9, 1, b"abcde"),
@@ -32,8 +34,9 @@ fn words_fill_lines() -> Result<(), Fail> {
     )
 }
 
+// Words exactly as wide as the line, and lines with one place too few for the next word.
 #[test]
-fn words_as_wide_as_the_line() -> Result<(), Fail> {
+fn exact_lines() -> Result<(), Fail> {
     check_each(
         Kind::Text,
         Pile::Bare,
@@ -42,16 +45,6 @@ fn words_as_wide_as_the_line() -> Result<(), Fail> {
             (b"abcd ef g hijk", 4, 14, 4, b"abcdef ghijk"),
             (b"abcd ef g hijk", 4, 14, 9, b"abcd ef ghijk     "),
             (b"ab cd ef gh", 2, 11, 5, b"ab cdef gh"),
-        ],
-    )
-}
-
-#[test]
-fn one_place_too_few() -> Result<(), Fail> {
-    check_each(
-        Kind::Text,
-        Pile::Bare,
-        &[
             (b"ab cde", 3, 6, 5, b"ab   cde  "),
             (b"ab cde", 3, 6, 6, b"ab cde"),
             (b"abc def ghi", 3, 11, 6, b"abc   def   ghi   "),
@@ -82,7 +75,7 @@ fn no_words() -> Result<(), Fail> {
 }
 
 #[test]
-fn references_in_words() -> Result<(), Fail> {
+fn references() -> Result<(), Fail> {
     check_each(
         Kind::Text,
         Pile::Bare,
@@ -113,16 +106,6 @@ fn references_in_words() -> Result<(), Fail> {
                 b"&lt;    &amp; &&",
             ),
             (b"&amp;nbsp;&lt;", 7, 7, 7, b"&nbsp;<"),
-        ],
-    )
-}
-
-#[test]
-fn references_between_words() -> Result<(), Fail> {
-    check_each(
-        Kind::Text,
-        Pile::Bare,
-        &[
             (b"a &lt; b &gt; c", 1, 9, 1, b"a<b>c"),
             (b"a &lt; b &gt; c", 1, 9, 3, b"a <b >c  "),
             (b"a &lt; b &gt; c", 1, 9, 9, b"a < b > c"),
@@ -170,31 +153,37 @@ fn white_space_parts_words() -> Result<(), Fail> {
     )
 }
 
-// A line of 2000 for the long word and one for the short, then the long word alone, then the short.
 #[test]
-fn a_word_of_2000() -> Result<(), Fail> {
+fn wide_lines() -> Result<(), Fail> {
+    check_each(
+        Kind::Text,
+        Pile::Bare,
+        &[
+            (&[b'x'; 2000], 2000, 2000, 2000, &[b'x'; 2000]),
+            (&[b'x'; 2000], 2000, 2000, 1999, b""),
+            (&[b'x'; 2000], 2000, 2000, 2001, b""),
+            (&[b'x'; 2001], 2001, 2001, 2000, b""),
+            (&[b'x'; 2001], 2001, 2001, 2001, b""),
+            (b"\t\n", 1, 1, 2000, &[b' '; 2000]),
+        ],
+    )
+}
+
+// A line of 2000 for the long word and one for the short.
+#[test]
+fn a_word_after_one_of_2000() -> Result<(), Fail> {
     let mut file = [b'x'; 2002];
     file[2000] = b' ';
     let mut page = [b' '; 4000];
     page[0..2000].fill(b'x');
     page[2000] = b'x';
-    check_each(Kind::Text, Pile::Bare, &[(&file, 2000, 2002, 2000, &page)])?;
-    check_each(
-        Kind::Text,
-        Pile::Bare,
-        &[(&file[0..2001], 2000, 2000, 2000, &page[0..2000])],
-    )?;
-    check_each(
-        Kind::Text,
-        Pile::Bare,
-        &[(&file[2000..], 1, 1, 2000, &page[2000..])],
-    )
+    check_each(Kind::Text, Pile::Bare, &[(&file, 2000, 2002, 2000, &page)])
 }
 
 #[test]
 fn stretches_of_a_file() -> Result<(), Fail> {
     check_file(
-        Kind::Text,
+        Base::Only(Kind::Text),
         Pile::Bare,
         b"<ba bb ccc>",
         &[(2, 10), (4, 8), (0, 0), (11, 11), (5, 6), (2, 10), (0, 11)],

@@ -1,4 +1,4 @@
-// Several layers over texts or blocks.
+// Several layers over texts or blocks. A blank that begins a line of a page is written \x20, since a bare one would be skipped.
 use crate::files::*;
 use crate::pile::*;
 use letters::Kind;
