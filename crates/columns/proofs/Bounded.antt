@@ -49,9 +49,10 @@ module _ (M : ℕ) where
   bounded-least (p ∷ ps) (c ∷ cs) o h =
       let b = o .0 in
       let l : c .least + p ≤ M = elim h [ inl e ↦ omega (arith, b .0) | inr e ↦ omega arith ] in
-      let rest : (total ps ≡ 0) ⊎ (total (leasts cs) + total ps ≤ M) = elim h [ inl e ↦ inl (omega arith) | inr e ↦ inr (omega arith) ] in
-      ( (l, cond-both (free c) (max (c .greatest) (c .least + p)) (c .least + p) (λ g. g ≤ M) (λ e. omega (arith, b .1)) (λ e. l))
-      , bounded-least ps cs (o .1) rest )
+      let rest : (total ps ≡ 0) ⊎ (total (leasts cs) + total ps ≤ M) = elim h [ inl e ↦ inl (omega arith) | inr e ↦ inr (omega arith) ] in (
+        (l, cond-both (free c) (max (c .greatest) (c .least + p)) (c .least + p) (λ g. g ≤ M) (λ e. omega (arith, b .1)) (λ e. l)),
+        bounded-least ps cs (o .1) rest,
+      )
 
   bounded-greatest : (ps : List ℕ) (cs : List Column) → All (Bounded M) cs → (total ps ≡ 0) ⊎ (total (greatests cs) + total ps ≤ M) → All (Bounded M) (with-parts more-greatest ps cs)
   unfolding with-parts
@@ -73,7 +74,7 @@ module _ (M : ℕ) where
       let ps : List ℕ = parts (need q (x .span) (x .minimum) (leasts cs)) (even-weights cs) in
       let ds : List Column = with-parts more-least ps cs in
       let one : All (Bounded M) ds =
-          bounded-least ps cs o (need-fits ((x .span - 1) * q) (x .minimum) (leasts cs) ps (h .0) (parts-most _ (even-weights cs) _ refl)) in
+      bounded-least ps cs o (need-fits ((x .span - 1) * q) (x .minimum) (leasts cs) ps (h .0) (parts-most _ (even-weights cs) _ refl)) in
       let qs : List ℕ = parts (need q (x .span) (x .maximum) (greatests ds)) (free-weights ds) in
       bounded-greatest qs ds one (need-fits ((x .span - 1) * q) (x .maximum) (greatests ds) qs (h .1) (parts-most _ (free-weights ds) _ refl))
 

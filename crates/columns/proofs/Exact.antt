@@ -178,13 +178,12 @@ module _ (q : ℕ) (j : ℕ) where
 
   spares-fresh : (xs : List Want) (cols : List Column) → j < length cols → All (Spares cols j) xs → All (Spares (map fresh cols) j) xs
   spares-fresh [] cols h s = tt
-  spares-fresh (x ∷ xs) cols h s =
-      (
-        (λ two low high.
+  spares-fresh (x ∷ xs) cols h s = (
+    (λ two low high.
         let p = s .0 two low high in
         (ap free (getD-map fresh cols j blank-column blank-column h) ∙ p .0, subst (λ ws. 0 < total ws) (sym (fresh-weights (x .first) (x .span) cols)) (p .1))),
-        spares-fresh xs cols h (s .1),
-      )
+    spares-fresh xs cols h (s .1),
+  )
 
   -- ---- cells of span 1
 

@@ -32,27 +32,27 @@ zero-max n = omega arith
 
 pub columns-are-lawful : (q : ℕ) (cols : List Column) (xs : List Want) → All (Fits 31 (length cols)) xs → Lawful q cols xs
 columns-are-lawful q cols xs fits =
-    record
-    { many = columns-stay 31 q cols xs
-    ; sized = sizings-stay 31 q cols xs
-    ; met = minimums-are-met 31 q cols xs fits
-    ; wide = maximums-are-met 31 q cols xs fits
-    ; ordered = columns-are-ordered 31 q cols xs
-    ; settled = fixed-are-settled 31 q cols xs
-    ; exact = λ j h s. exact-least q j 31 cols xs h fits s
-    ; plain = λ ones frees j h.
-        let s = all-weaker (λ (x : Want). x .span ≡ 1) (Spares cols j) (λ x e two. absurd (omega arith)) xs ones in
-        let z = free-at (getD cols j blank-column .sizing) (all-getD (λ c. free c ≡ true) cols j blank-column h frees) in
-        exact-least q j 31 cols xs h fits s ∙ ap (λ n. max n (own-minimum j xs)) z ∙ zero-max (own-minimum j xs)
+    record {
+      many = columns-stay 31 q cols xs;
+      sized = sizings-stay 31 q cols xs;
+      met = minimums-are-met 31 q cols xs fits;
+      wide = maximums-are-met 31 q cols xs fits;
+      ordered = columns-are-ordered 31 q cols xs;
+      settled = fixed-are-settled 31 q cols xs;
+      exact = λ j h s. exact-least q j 31 cols xs h fits s;
+      plain = λ ones frees j h.
+          let s = all-weaker (λ (x : Want). x .span ≡ 1) (Spares cols j) (λ x e two. absurd (omega arith)) xs ones in
+          let z = free-at (getD cols j blank-column .sizing) (all-getD (λ c. free c ≡ true) cols j blank-column h frees) in
+          exact-least q j 31 cols xs h fits s ∙ ap (λ n. max n (own-minimum j xs)) z ∙ zero-max (own-minimum j xs);
     }
 
 pub offers-are-lawful : (q : ℕ) (cs : List Column) (A : ℕ) → Offered q cs A
 offers-are-lawful q cs A =
-    record
-    { many = length-widths q cs A
-    ; filled = offer-is-filled q cs A
-    ; between = widths-stay-between q cs A
-    ; short = offer-short q cs A
-    ; ample = offer-met q cs A
-    ; fair = offer-is-fair q cs A
+    record {
+      many = length-widths q cs A;
+      filled = offer-is-filled q cs A;
+      between = widths-stay-between q cs A;
+      short = offer-short q cs A;
+      ample = offer-met q cs A;
+      fair = offer-is-fair q cs A;
     }

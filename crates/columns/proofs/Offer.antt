@@ -54,11 +54,11 @@ offer-is-filled q cs A o lo hi =
     cond-both (leb A L) (leasts cs) (cond (leb G A) (greatests cs) ws) P
     (λ e. omega (arith, leb-true A L e))
     (λ e. cond-both (leb G A) (greatests cs) ws P
-     (λ d. omega (arith, leb-true G A d))
-     (λ d.
-      let s : total (leasts cs) + total (spreads cs) ≡ total (greatests cs) = total-spreads cs o in
-      let pos : 0 < total (spreads cs) = omega (arith, leb-false A L e, leb-false G A d) in
-      omega (arith, shares-are-fair W (spreads cs) .whole pos, total-sums (leasts cs) (parts W (spreads cs)) (lengths W cs))))
+    (λ d. omega (arith, leb-true G A d))
+    (λ d.
+    let s : total (leasts cs) + total (spreads cs) ≡ total (greatests cs) = total-spreads cs o in
+    let pos : 0 < total (spreads cs) = omega (arith, leb-false A L e, leb-false G A d) in
+    omega (arith, shares-are-fair W (spreads cs) .whole pos, total-sums (leasts cs) (parts W (spreads cs)) (lengths W cs))))
 
 pub widths-stay-between : (q : ℕ) (cs : List Column) (A : ℕ) → All Ordered cs → (j : ℕ) → (getD (leasts cs) j 0 ≤ getD (widths-of q cs A) j 0) × (getD (widths-of q cs A) j 0 ≤ getD (greatests cs) j 0)
 unfolding widths-of
@@ -72,11 +72,11 @@ widths-stay-between q cs A o j =
     cond-both (leb A L) (leasts cs) (cond (leb G A) (greatests cs) ws) P
     (λ e. omega arith)
     (λ e. cond-both (leb G A) (greatests cs) ws P
-     (λ d. omega arith)
-     (λ d.
-      let s : total (leasts cs) + total (spreads cs) ≡ total (greatests cs) = total-spreads cs o in
-      let less : W ≤ total (spreads cs) = omega (arith, leb-false A L e, leb-false G A d) in
-      omega (arith, shares-are-fair W (spreads cs) .within less j, getD-sums (leasts cs) (parts W (spreads cs)) (lengths W cs) j)))
+    (λ d. omega arith)
+    (λ d.
+    let s : total (leasts cs) + total (spreads cs) ≡ total (greatests cs) = total-spreads cs o in
+    let less : W ≤ total (spreads cs) = omega (arith, leb-false A L e, leb-false G A d) in
+    omega (arith, shares-are-fair W (spreads cs) .within less j, getD-sums (leasts cs) (parts W (spreads cs)) (lengths W cs) j)))
 
 more : (q : ℕ) (cs : List Column) (A : ℕ) → least-width q cs ≤ A → greatest-width q cs < A → total (widths-of q cs A) + around q cs ≤ A
 unfolding widths-of
@@ -88,16 +88,17 @@ more q cs A lo l =
     cond-both (leb A L) (leasts cs) (cond (leb G A) (greatests cs) ws) P
     (λ e. omega arith)
     (λ e. cond-both (leb G A) (greatests cs) ws P
-     (λ d. omega arith)
-     (λ d. absurd (omega (arith, leb-false G A d))))
+    (λ d. omega arith)
+    (λ d. absurd (omega (arith, leb-false G A d))))
 
 -- an offer of at least the least width is not exceeded
 pub offer-not-exceeded : (q : ℕ) (cs : List Column) (A : ℕ) → All Ordered cs → least-width q cs ≤ A → total (widths-of q cs A) + around q cs ≤ A
 offer-not-exceeded q cs A o lo =
-    elim (cases-lt (greatest-width q cs) A)
-    [ inl l ↦ more q cs A lo l
-    | inr l ↦ le-of-eq (offer-is-filled q cs A o lo l)
+    elim (cases-lt (greatest-width q cs) A) [
+      | inl l ↦ more q cs A lo l
+      | inr l ↦ le-of-eq (offer-is-filled q cs A o lo l)
     ]
+
 length-sums : (xs ys : List ℕ) → length xs ≡ length ys → length (sums xs ys) ≡ length xs
 unfolding sums
 length-sums [] ys h = sym h
@@ -115,8 +116,8 @@ length-widths q cs A =
     cond-both (leb A L) (leasts cs) (cond (leb G A) (greatests cs) ws) P
     (λ e. length-map cs (λ c. c .least))
     (λ e. cond-both (leb G A) (greatests cs) ws P
-     (λ d. length-map cs (λ c. c .greatest))
-     (λ d. length-sums (leasts cs) (parts W (spreads cs)) (lengths W cs) ∙ length-map cs (λ c. c .least)))
+    (λ d. length-map cs (λ c. c .greatest))
+    (λ d. length-sums (leasts cs) (parts W (spreads cs)) (lengths W cs) ∙ length-map cs (λ c. c .least)))
 
 -- only the leasts and greatests count
 pub widths-by-bounds : (q : ℕ) (cs ds : List Column) (A : ℕ) → leasts cs ≡ leasts ds → greatests cs ≡ greatests ds → spreads cs ≡ spreads ds →
@@ -188,19 +189,19 @@ offer-is-fair q cs A o lo hi pos i k =
     let ws : List ℕ = sums (leasts cs) (parts W (spreads cs)) in
     let sp = total-spreads cs o in
     let P : List ℕ → Type 0 = λ xs.
-        ((stretch i k xs - stretch i k (leasts cs)) * D < W * S + D) × (W * S < (stretch i k xs - stretch i k (leasts cs)) * D + D) in
+    ((stretch i k xs - stretch i k (leasts cs)) * D < W * S + D) × (W * S < (stretch i k xs - stretch i k (leasts cs)) * D + D) in
     cond-both (leb A L) (leasts cs) (cond (leb G A) (greatests cs) ws) P
     (λ e.
-     let w : W ≡ 0 = omega (arith, leb-true A L e) in
-     let g : stretch i k (leasts cs) - stretch i k (leasts cs) ≡ 0 = sub-self (stretch i k (leasts cs)) in
-     rw (g, w, zero-mul, zero-mul) (omega arith, omega arith))
+    let w : W ≡ 0 = omega (arith, leb-true A L e) in
+    let g : stretch i k (leasts cs) - stretch i k (leasts cs) ≡ 0 = sub-self (stretch i k (leasts cs)) in
+    rw (g, w, zero-mul, zero-mul) (omega arith, omega arith))
     (λ e. cond-both (leb G A) (greatests cs) ws P
-     (λ d.
-      let w : W ≡ D = omega (arith, leb-true G A d) in
-      let g : stretch i k (greatests cs) - stretch i k (leasts cs) ≡ S =
-          omega (arith, ap (stretch i k) (greatests-sums cs o), stretch-sums i k (leasts cs) (spreads cs) (length-map cs (λ c. c .least) ∙ sym (length-map cs (λ c. c .greatest - c .least)))) in
-      rw (g, w, mul-comm S D) (omega arith, omega arith))
-     (λ d.
-      let g : stretch i k ws - stretch i k (leasts cs) ≡ stretch i k (parts W (spreads cs)) =
-          omega (arith, stretch-sums i k (leasts cs) (parts W (spreads cs)) (lengths W cs)) in
-      rw g (shares-are-fair W (spreads cs) .above pos i k, shares-are-fair W (spreads cs) .below pos i k)))
+    (λ d.
+    let w : W ≡ D = omega (arith, leb-true G A d) in
+    let g : stretch i k (greatests cs) - stretch i k (leasts cs) ≡ S =
+    omega (arith, ap (stretch i k) (greatests-sums cs o), stretch-sums i k (leasts cs) (spreads cs) (length-map cs (λ c. c .least) ∙ sym (length-map cs (λ c. c .greatest - c .least)))) in
+    rw (g, w, mul-comm S D) (omega arith, omega arith))
+    (λ d.
+    let g : stretch i k ws - stretch i k (leasts cs) ≡ stretch i k (parts W (spreads cs)) =
+    omega (arith, stretch-sums i k (leasts cs) (parts W (spreads cs)) (lengths W cs)) in
+    rw g (shares-are-fair W (spreads cs) .above pos i k, shares-are-fair W (spreads cs) .below pos i k)))

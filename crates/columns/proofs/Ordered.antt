@@ -40,7 +40,7 @@ unfolding meet-maximum meet-minimum
 keeps-meet q x cs o =
     keeps-with more-greatest (λ p c h. omega arith) _ _
     (keeps-with more-least
-     (λ p c h. cond-both (free c) _ _ (λ g. c .least + p ≤ g) (λ e. omega arith) (λ e. le-refl (c .least + p))) _ cs o)
+    (λ p c h. cond-both (free c) _ _ (λ g. c .least + p ≤ g) (λ e. omega arith) (λ e. le-refl (c .least + p))) _ cs o)
 
 keeps-each-of : (s : ℕ) (f : Want → List Column → List Column) (xs : List Want) → All (λ x. Keeps (f x)) xs → Keeps (each-of s f xs)
 unfolding each-of
@@ -71,4 +71,4 @@ unfolding pass
 columns-are-ordered top q cols xs h =
     keeps-spans q top 2 xs _
     (keeps-map held (λ c o. cond-both (free c) _ _ Ordered (λ e. o) (λ e. le-refl _)) _
-     (keeps-each-of 1 raise-one xs (ones-keep xs h) _ (fresh-ordered cols)))
+    (keeps-each-of 1 raise-one xs (ones-keep xs h) _ (fresh-ordered cols)))

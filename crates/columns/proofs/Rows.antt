@@ -91,12 +91,13 @@ leasts-meet q x ys fr =
     let N : ℕ = need q (x .span) (x .minimum) (leasts ys) in
     leasts-widened _ (with-parts more-least (parts N (even-weights ys)) ys)
     ∙ (leasts-more (parts N (even-weights ys)) ys (parts-length N (total (even-weights ys)) 0 (even-weights ys) ∙ length-map ys (weight (none-free ys)))
-       ∙ ap (λ ws. sums (leasts ys) (parts N ws)) (all-ones (none-free ys) ys fr))
+    ∙ ap (λ ws. sums (leasts ys) (parts N ws)) (all-ones (none-free ys) ys fr))
 
 alike-span : (q : ℕ) → Alike (raise-span q) (raise-rows q)
-alike-span q x cs fr =
-    ( leasts-over (λ ys. meet-maximum q x (meet-minimum q x ys)) (meet-rows q x) (leasts-meet q x) (x .first) (x .span) cs fr
-    , free-grown (grown-span q x cs) fr )
+alike-span q x cs fr = (
+  leasts-over (λ ys. meet-maximum q x (meet-minimum q x ys)) (meet-rows q x) (leasts-meet q x) (x .first) (x .span) cs fr,
+  free-grown (grown-span q x cs) fr,
+)
 
 leasts-held : (cs : List Column) → All-free cs → leasts (map held cs) ≡ leasts cs
 leasts-held [] fr = refl

@@ -46,7 +46,7 @@ serve-one : (q top : ℕ) (x : Want) (cs : List Column) → Fits top (length cs)
 serve-one q top x cs fits e =
     let ys : List Column = take 1 (drop (x .first) cs) in
     let o : take 1 (drop (x .first) (raise-one x cs)) ≡ map (raised-to x) ys =
-        spanned-over (map (raised-to x)) (λ zs. length-map zs (raised-to x)) (x .first) 1 cs (omega arith) in
+    spanned-over (map (raised-to x)) (λ zs. length-map zs (raised-to x)) (x .first) 1 cs (omega arith) in
     let l : length ys ≡ 1 = length-take-le 1 (drop (x .first) cs) (omega (arith, length-drop (x .first) cs)) in
     let m : x .minimum ≤ total (leasts (map (raised-to x) ys)) = one-enough x ys (omega arith) in
     rw (e, o) (omega arith)
@@ -71,9 +71,10 @@ total-all (c ∷ cs) = omega (arith, total-all cs)
 
 pub even-pos : (cs : List Column) → 0 < length cs → 0 < total (even-weights cs)
 even-pos cs h =
-    elim (cases-bool (none-free cs))
-    [ inl e ↦ rw e (omega (arith, total-all cs))
-    | inr e ↦ rw e (omega (arith, eqb-false (total (free-weights cs)) 0 e)) ]
+    elim (cases-bool (none-free cs)) [
+      | inl e ↦ rw e (omega (arith, total-all cs))
+      | inr e ↦ rw e (omega (arith, eqb-false (total (free-weights cs)) 0 e))
+    ]
 
 meet-enough : (q : ℕ) (x : Want) (ys : List Column) → 0 < length ys →
     x .minimum ≤ total (leasts (meet-maximum q x (meet-minimum q x ys))) + (x .span - 1) * q
@@ -90,7 +91,7 @@ serve-span q top x cs fits =
     let ys : List Column = spanned x cs in
     let l : length ys ≡ x .span = length-take-le (x .span) (drop (x .first) cs) (omega (arith, length-drop (x .first) cs)) in
     let o : spanned x (raise-span q x cs) ≡ meet-maximum q x (meet-minimum q x ys) =
-        spanned-over (λ zs. meet-maximum q x (meet-minimum q x zs)) (λ zs. sym (grown-length (grown-meet q x zs))) (x .first) (x .span) cs (omega arith) in
+    spanned-over (λ zs. meet-maximum q x (meet-minimum q x zs)) (λ zs. sym (grown-length (grown-meet q x zs))) (x .first) (x .span) cs (omega arith) in
     rw o (meet-enough q x ys (omega arith))
 
 -- all cells of a span, and all spans
@@ -103,13 +104,14 @@ module _ (q top N : ℕ) where
   each-of-serves s f g h [] cs l fits = tt
   each-of-serves s f g h (x ∷ xs) cs l fits =
       let ds : List Column = cond (eqb (x .span) s) (f x cs) cs in
-      let gd : Grown cs ds = grown-each-of s f g (x ∷ []) cs in
-      ( (λ e.
-         let t : ds ≡ f x cs = cond-true (eqb (x .span) s) (f x cs) cs (eq-eqb (x .span) s e) in
-         let here : Served q (f x cs) x = h x cs (subst (λ n. Fits top n x) (sym l) (fits .0)) e in
-         let here′ : Served q ds x = rw t here in
-         still-served q x (grown-each-of s f g xs ds) here′)
-      , each-of-serves s f g h xs ds (sym (grown-length gd) ∙ l) (fits .1) )
+      let gd : Grown cs ds = grown-each-of s f g (x ∷ []) cs in (
+        (λ e.
+            let t : ds ≡ f x cs = cond-true (eqb (x .span) s) (f x cs) cs (eq-eqb (x .span) s e) in
+            let here : Served q (f x cs) x = h x cs (subst (λ n. Fits top n x) (sym l) (fits .0)) e in
+            let here′ : Served q ds x = rw t here in
+            still-served q x (grown-each-of s f g xs ds) here′),
+        each-of-serves s f g h xs ds (sym (grown-length gd) ∙ l) (fits .1),
+      )
 
   spans-serve : (n s : ℕ) (xs : List Want) (cs : List Column) → length cs ≡ N → All (Fits top N) xs →
       All (λ x. s ≤ x .span → x .span < s + n → Served q (spans (raise-span q) n s xs cs) x) xs
@@ -122,9 +124,10 @@ module _ (q top N : ℕ) where
       let rest = spans-serve n (suc s) xs ds (sym (grown-length gd) ∙ l) fits in
       all-both (λ x. x .span ≡ s → Served q ds x) (λ x. suc s ≤ x .span → x .span < suc s + n → Served q (spans (raise-span q) n (suc s) xs ds) x)
       (λ x. s ≤ x .span → x .span < s + suc n → Served q (spans (raise-span q) n (suc s) xs ds) x)
-      (λ x p r lo hi. elim (cases-eq (x .span) s)
-       [ inl e ↦ still-served q x (grown-spans q n (suc s) xs ds) (p e)
-       | inr ne ↦ r (omega arith) (omega arith) ])
+      (λ x p r lo hi. elim (cases-eq (x .span) s) [
+        | inl e ↦ still-served q x (grown-spans q n (suc s) xs ds) (p e)
+        | inr ne ↦ r (omega arith) (omega arith)
+      ])
       xs here rest
 
 pub minimums-are-met : (top q : ℕ) (cols : List Column) (xs : List Want) → All (Fits top (length cols)) xs → All (Served q (pass top q cols xs)) xs
@@ -141,11 +144,12 @@ minimums-are-met top q cols xs fits =
     let ones = each-of-serves q top N 1 raise-one grown-one (serve-one q top) xs cs l fits in
     let rest = spans-serve q top N top 2 xs es (sym (grown-length (grown-trans g g′)) ∙ l) fits in
     let both = all-both (λ x. x .span ≡ 1 → Served q ds x) (λ x. 2 ≤ x .span → x .span < 2 + top → Served q end x)
-        (λ x. Fits top N x → Served q end x)
-        (λ x p r fit. elim (cases-eq (x .span) 1)
-         [ inl e ↦ still-served q x (grown-trans g′ (grown-spans q top 2 xs es)) (p e)
-         | inr ne ↦ r (omega arith) (omega arith) ])
-        xs ones rest in
+    (λ x. Fits top N x → Served q end x)
+    (λ x p r fit. elim (cases-eq (x .span) 1) [
+      | inl e ↦ still-served q x (grown-trans g′ (grown-spans q top 2 xs es)) (p e)
+      | inr ne ↦ r (omega arith) (omega arith)
+    ])
+    xs ones rest in
     all-both (λ x. Fits top N x → Served q end x) (Fits top N) (Served q end) (λ x h f. h f) xs both fits
 
 pub columns-stay : (top q : ℕ) (cols : List Column) (xs : List Want) → length (pass top q cols xs) ≡ length cols

@@ -29,9 +29,10 @@ keeps-least : (ps : List ℕ) → Keeps (with-parts more-least ps)
 unfolding with-parts
 keeps-least [] cs o = o
 keeps-least (p ∷ ps) [] o = tt
-keeps-least (p ∷ ps) (c ∷ cs) o =
-    ( (λ e. (sym (cond-false (free c) (max (c .greatest) (c .least + p)) (c .least + p) e), omega (arith, o .0 e)))
-    , keeps-least ps cs (o .1) )
+keeps-least (p ∷ ps) (c ∷ cs) o = (
+  (λ e. (sym (cond-false (free c) (max (c .greatest) (c .least + p)) (c .least + p) e), omega (arith, o .0 e))),
+  keeps-least ps cs (o .1),
+)
 
 -- a fixed column's part is 0
 no-part : (W D b : ℕ) (c : Column) → free c ≡ false → W * (b + cond (free c) 1 0) / D - W * b / D ≡ 0
@@ -40,9 +41,10 @@ no-part W D b c e = rw (cond-false {A = ℕ} (free c) 1 0 e, add-zero) (sub-self
 keeps-greatest : (W D b : ℕ) (cs : List Column) → All Settled cs → All Settled (with-parts more-greatest (parts-from W D b (free-weights cs)) cs)
 unfolding with-parts parts-from
 keeps-greatest W D b [] o = tt
-keeps-greatest W D b (c ∷ cs) o =
-    ( (λ e. omega (arith, o .0 e, no-part W D b c e))
-    , keeps-greatest W D (b + cond (free c) 1 0) cs (o .1) )
+keeps-greatest W D b (c ∷ cs) o = (
+  (λ e. omega (arith, o .0 e, no-part W D b c e)),
+  keeps-greatest W D (b + cond (free c) 1 0) cs (o .1),
+)
 
 pub keeps-meet : (q : ℕ) (x : Want) → Keeps (λ cs. meet-maximum q x (meet-minimum q x cs))
 unfolding meet-maximum meet-minimum
@@ -62,9 +64,10 @@ keeps-spans q (suc n) s xs cs o = keeps-spans q n (suc s) xs _ (keeps-each-of q 
 
 pub held-settled : (cs : List Column) → All Settled (map held cs)
 held-settled [] = tt
-held-settled (c ∷ cs) =
-    ( cond-both (free c) c _ Settled (λ t f. absurd (both-ways (free c) f t)) (λ e _. (refl, omega arith))
-    , held-settled cs )
+held-settled (c ∷ cs) = (
+  cond-both (free c) c _ Settled (λ t f. absurd (both-ways (free c) f t)) (λ e _. (refl, omega arith)),
+  held-settled cs,
+)
 
 pub fixed-are-settled : (top q : ℕ) (cols : List Column) (xs : List Want) → All Settled (pass top q cols xs)
 unfolding pass

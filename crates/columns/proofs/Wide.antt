@@ -169,7 +169,7 @@ serve-span-wide : (q top : ℕ) (x : Want) (cs : List Column) → Fits top (leng
 serve-span-wide q top x cs fits opn =
     let ys : List Column = spanned x cs in
     let o : spanned x (raise-span q x cs) ≡ meet-maximum q x (meet-minimum q x ys) =
-        spanned-over (λ zs. meet-maximum q x (meet-minimum q x zs)) (λ zs. sym (grown-length (grown-meet q x zs))) (x .first) (x .span) cs (omega arith) in
+    spanned-over (λ zs. meet-maximum q x (meet-minimum q x zs)) (λ zs. sym (grown-length (grown-meet q x zs))) (x .first) (x .span) cs (omega arith) in
     rw o (meet-wide q x ys opn)
 
 -- ---- all cells of a span, and all spans
@@ -180,12 +180,11 @@ module _ (q top N : ℕ) where
   ones-wide [] cs l fits = tt
   ones-wide (x ∷ xs) cs l fits =
       let ds : List Column = cond (eqb (x .span) 1) (raise-one x cs) cs in
-      let gd : Grown cs ds = grown-each-of 1 raise-one grown-one (x ∷ []) cs in
-      (
+      let gd : Grown cs ds = grown-each-of 1 raise-one grown-one (x ∷ []) cs in (
         (λ e.
-        let t : ds ≡ raise-one x cs = cond-true (eqb (x .span) 1) (raise-one x cs) cs (eq-eqb (x .span) 1 e) in
-        let here : Wide q (raise-one x cs) x = serve-one-wide q top x cs (subst (λ n. Fits top n x) (sym l) (fits .0)) e in
-        still-wide q x (widened-ones xs ds) (subst (λ zs. Wide q zs x) (sym t) here)),
+            let t : ds ≡ raise-one x cs = cond-true (eqb (x .span) 1) (raise-one x cs) cs (eq-eqb (x .span) 1 e) in
+            let here : Wide q (raise-one x cs) x = serve-one-wide q top x cs (subst (λ n. Fits top n x) (sym l) (fits .0)) e in
+            still-wide q x (widened-ones xs ds) (subst (λ zs. Wide q zs x) (sym t) here)),
         ones-wide xs ds (sym (grown-length gd) ∙ l) (fits .1),
       )
 
@@ -196,12 +195,11 @@ module _ (q top N : ℕ) where
       let ds : List Column = cond (eqb (x .span) s) (raise-span q x cs) cs in
       let gd : Grown cs ds = grown-each-of s (raise-span q) (grown-span q) (x ∷ []) cs in
       let od : All Settled ds = keeps-each-of q s (x ∷ []) cs o in
-      let rest = each-wide s xs ds od (sym (grown-length gd) ∙ l) (fits .1) in
-      (
+      let rest = each-wide s xs ds od (sym (grown-length gd) ∙ l) (fits .1) in (
         (λ e opn.
-        let t : ds ≡ raise-span q x cs = cond-true (eqb (x .span) s) (raise-span q x cs) cs (eq-eqb (x .span) s e) in
-        let here : Wide q (raise-span q x cs) x = serve-span-wide q top x cs (subst (λ n. Fits top n x) (sym l) (fits .0)) opn in
-        still-wide q x (widened-each q s xs ds od) (subst (λ zs. Wide q zs x) (sym t) here)),
+            let t : ds ≡ raise-span q x cs = cond-true (eqb (x .span) s) (raise-span q x cs) cs (eq-eqb (x .span) s e) in
+            let here : Wide q (raise-span q x cs) x = serve-span-wide q top x cs (subst (λ n. Fits top n x) (sym l) (fits .0)) opn in
+            still-wide q x (widened-each q s xs ds od) (subst (λ zs. Wide q zs x) (sym t) here)),
         all-weaker (λ y. y .span ≡ s → Open y ds → Wide q (each-of s (raise-span q) xs ds) y) (λ y. y .span ≡ s → Open y cs → Wide q (each-of s (raise-span q) xs ds) y) (λ y h e opn. h e (open-grown y gd opn)) xs rest,
       )
 
@@ -258,15 +256,15 @@ maximums-are-met top q cols xs fits =
     let rest = spans-wide q top N top 2 xs es o (sym (grown-length (grown-trans g g′)) ∙ l) fits in
     let start : (x : Want) → Open x cols → Open x cs = λ x opn. subst (λ ws. 0 < total ws) (sym (fresh-weights (x .first) (x .span) cols)) opn in
     let both = all-both (λ x. x .span ≡ 1 → Wide q ds x) (λ x. 2 ≤ x .span → x .span < 2 + top → Open x es → Wide q end x)
-        (λ x. Fits top N x → Open x cols → Wide q end x)
-        (λ x p r fit opn. elim (cases-eq (x .span) 1) [
-          | inl e ↦
-              let at : Open x ds = open-grown x g (start x opn) in
-              let ys : List Column = spanned x ds in
-              let len : length ys ≡ 1 = length-take-le (x .span) (drop (x .first) ds) (omega (arith, length-drop (x .first) ds, grown-length g)) ∙ e in
-              let kept : spanned x es ≡ ys = spanned-map held (x .first) (x .span) ds ∙ held-open x ys len at in
-              still-wide q x (widened-spans q top 2 xs es o) (subst (λ zs. x .maximum ≤ total (greatests zs) + (x .span - 1) * q) (sym kept) (p e))
-          | inr ne ↦ r (omega arith) (omega arith) (open-grown x (grown-trans g g′) (start x opn))
-        ])
-        xs ones rest in
+    (λ x. Fits top N x → Open x cols → Wide q end x)
+    (λ x p r fit opn. elim (cases-eq (x .span) 1) [
+      | inl e ↦
+          let at : Open x ds = open-grown x g (start x opn) in
+          let ys : List Column = spanned x ds in
+          let len : length ys ≡ 1 = length-take-le (x .span) (drop (x .first) ds) (omega (arith, length-drop (x .first) ds, grown-length g)) ∙ e in
+          let kept : spanned x es ≡ ys = spanned-map held (x .first) (x .span) ds ∙ held-open x ys len at in
+          still-wide q x (widened-spans q top 2 xs es o) (subst (λ zs. x .maximum ≤ total (greatests zs) + (x .span - 1) * q) (sym kept) (p e))
+      | inr ne ↦ r (omega arith) (omega arith) (open-grown x (grown-trans g g′) (start x opn))
+    ])
+    xs ones rest in
     all-both (λ x. Fits top N x → Open x cols → Wide q end x) (Fits top N) (λ x. Open x cols → Wide q end x) (λ x h f. h f) xs both fits

@@ -83,11 +83,11 @@ with-parts f (p ∷ ps) (c ∷ cs) = f p c ∷ with-parts f ps cs
 -- the least grows by p; a free column's greatest is then at least that, a fixed one's equals it
 abbrev pub more-least : ℕ → Column → Column
 more-least p c =
-    record
-    { sizing = c .sizing
-    ; least = c .least + p
-    ; greatest = cond (free c) (max (c .greatest) (c .least + p)) (c .least + p)
-    ; width = c .width
+    record {
+      sizing = c .sizing;
+      least = c .least + p;
+      greatest = cond (free c) (max (c .greatest) (c .least + p)) (c .least + p);
+      width = c .width;
     }
 
 abbrev pub more-greatest : ℕ → Column → Column
@@ -143,7 +143,7 @@ unfoldable pub widths-of : ℕ → List Column → ℕ → List ℕ
 widths-of q cs A =
     cond (leb A (least-width q cs)) (leasts cs)
     (cond (leb (greatest-width q cs) A) (greatests cs)
-     (sums (leasts cs) (parts (A - least-width q cs) (spreads cs))))
+    (sums (leasts cs) (parts (A - least-width q cs) (spreads cs))))
 
 abbrev pub overflow-of : ℕ → List Column → ℕ → ℕ
 overflow-of q cs A = least-width q cs - A

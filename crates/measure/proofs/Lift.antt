@@ -75,17 +75,18 @@ module _ (f : Want → List Column → List Column) (t n s : ℕ) where
       rest (drop i cs) (drop i as′) ds ≡ rest (drop (i + 1) cs) (drop (i + 1) as′) (done f (getD cs i blank-cell) (asked t n s i (getD cs i blank-cell) as′) ds)
   rest-more cs as′ i ds h =
       let c = getD cs i blank-cell in
-      elim (cases-lt i (length as′))
-      [ inl l ↦
-          ap (λ bs. rest bs (drop i as′) ds) (drop-more cs i blank-cell h) ∙
-          ap (λ bs. rest (c ∷ drop (i + 1) cs) bs ds) (drop-more as′ i no-ask l) ∙
-          head-by c (getD as′ i no-ask) (wants t n (drop (i + 1) cs) (drop (i + 1) as′)) ds (asks-in t n c) (eqb (c .across) s) refl ∙
-          ap (λ b. rest (drop (i + 1) cs) (drop (i + 1) as′) (done f c (cond (eqb (c .across) s && (b && asks-in t n c)) (Some (getD as′ i no-ask)) None) ds))
+      elim (cases-lt i (length as′)) [
+        | inl l ↦
+            ap (λ bs. rest bs (drop i as′) ds) (drop-more cs i blank-cell h) ∙
+            ap (λ bs. rest (c ∷ drop (i + 1) cs) bs ds) (drop-more as′ i no-ask l) ∙
+            head-by c (getD as′ i no-ask) (wants t n (drop (i + 1) cs) (drop (i + 1) as′)) ds (asks-in t n c) (eqb (c .across) s) refl ∙
+            ap (λ b. rest (drop (i + 1) cs) (drop (i + 1) as′) (done f c (cond (eqb (c .across) s && (b && asks-in t n c)) (Some (getD as′ i no-ask)) None) ds))
             (sym (lt-ltb i (length as′) l))
-      | inr g ↦
-          rest-none i (drop i cs) as′ ds g ∙
-          sym (ap (λ r. done f c r ds) (cond-false _ _ _ (and-right (eqb (c .across) s) _ (and-left _ (asks-in t n c) (le-ltb i (length as′) g))))) ∙
-          sym (rest-none (i + 1) (drop (i + 1) cs) as′ _ (omega arith)) ]
+        | inr g ↦
+            rest-none i (drop i cs) as′ ds g ∙
+            sym (ap (λ r. done f c r ds) (cond-false _ _ _ (and-right (eqb (c .across) s) _ (and-left _ (asks-in t n c) (le-ltb i (length as′) g))))) ∙
+            sym (rest-none (i + 1) (drop (i + 1) cs) as′ _ (omega arith))
+      ]
 
   -- one more cell is done
   pub one-more : (cs : List Cell) (as′ : List Ask) (i : ℕ) (ds es T : List Column) (r : Option Ask) → i < length cs →

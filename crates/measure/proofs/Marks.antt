@@ -29,10 +29,11 @@ module _ (t n : ℕ) (ms : List Bool) (cs : List Cell) (i : ℕ) (h : i < length
       Marked t n (set ms (getD cs i blank-cell .across) true) (take (i + 1) cs)
   marked-yes l m s e =
       let k = getD cs i blank-cell .across in
-      elim (cases-eq s k)
-      [ inl same ↦ absurd (true≢false (sym (getD-set-same ms k true false l) ∙ ap (λ j. getD (set ms k true) j false) (sym same) ∙ e))
-      | inr other ↦
-          all-more (λ c. asks-in t n c ≡ true → c .across ≡ s → ⊥) cs i blank-cell h (m s (sym (getD-set-other ms k s true false other) ∙ e)) (λ _ is. other (sym is)) ]
+      elim (cases-eq s k) [
+        | inl same ↦ absurd (true≢false (sym (getD-set-same ms k true false l) ∙ ap (λ j. getD (set ms k true) j false) (sym same) ∙ e))
+        | inr other ↦
+            all-more (λ c. asks-in t n c ≡ true → c .across ≡ s → ⊥) cs i blank-cell h (m s (sym (getD-set-other ms k s true false other) ∙ e)) (λ _ is. other (sym is))
+      ]
 
   pub marked-no : asks-in t n (getD cs i blank-cell) ≡ false → Marked t n ms (take i cs) → Marked t n ms (take (i + 1) cs)
   marked-no not m s e =
@@ -44,10 +45,11 @@ unfolding each-of
 each-absent f t n s [] as′ x h = refl
 each-absent f t n s (c ∷ cs) [] x h = refl
 each-absent f t n s (c ∷ cs) (a ∷ as′) x h =
-    elim (cases-bool (asks-in t n c))
-    [ inl is ↦
-        rw is (ap (λ y. each-of s f (wants t n cs as′) y) (cond-false (eqb (c .across) s) _ _ (ne-eqb (c .across) s (h .0 is))) ∙ each-absent f t n s cs as′ x (h .1))
-    | inr not ↦ rw not (each-absent f t n s cs as′ x (h .1)) ]
+    elim (cases-bool (asks-in t n c)) [
+      | inl is ↦
+          rw is (ap (λ y. each-of s f (wants t n cs as′) y) (cond-false (eqb (c .across) s) _ _ (ne-eqb (c .across) s (h .0 is))) ∙ each-absent f t n s cs as′ x (h .1))
+      | inr not ↦ rw not (each-absent f t n s cs as′ x (h .1))
+    ]
 
 pub asks-across : (t n : ℕ) (c : Cell) → asks-in t n c ≡ true → c .across ≤ 32
 asks-across t n c e =

@@ -51,8 +51,8 @@ module _ (q : ℕ) where
       let l = part-length x cs h in
       over-same (lifted q (ask-of x)) (λ ds. meet-maximum q x (meet-minimum q x ds)) (x .first) (x .span) cs
       (cond-false _ _ _ (ne-eqb _ 1 (λ e. ne (sym l ∙ e)))
-       ∙ ap (λ k. meet Greatest q k (x .maximum) (meet Least q k (x .minimum) ys)) l
-       ∙ meets q x ys)
+      ∙ ap (λ k. meet Greatest q k (x .maximum) (meet Least q k (x .minimum) ys)) l
+      ∙ meets q x ys)
 
 -- two ways to raise the columns that agree on the cells of span s
 each-as : (s : ℕ) (f g : Want → List Column → List Column) →
@@ -62,15 +62,16 @@ each-as : (s : ℕ) (f g : Want → List Column → List Column) →
 unfolding each-of
 each-as s f g h k [] cs a = refl
 each-as s f g h k (x ∷ xs) cs a =
-    elim (cases-eq (x .span) s)
-    [ inl e ↦
-        ap (λ ds. each-of s f xs ds) (cond-true (eqb (x .span) s) _ _ (eq-eqb (x .span) s e) ∙ h x cs e (a .0 .2))
-        ∙ each-as s f g h k xs (g x cs) (subst (λ n. All (Fits 31 n) xs) (k x cs) (a .1))
-        ∙ sym (ap (λ ds. each-of s g xs ds) (cond-true (eqb (x .span) s) _ _ (eq-eqb (x .span) s e)))
-    | inr e ↦
-        ap (λ ds. each-of s f xs ds) (cond-false (eqb (x .span) s) _ _ (ne-eqb (x .span) s e))
-        ∙ each-as s f g h k xs cs (a .1)
-        ∙ sym (ap (λ ds. each-of s g xs ds) (cond-false (eqb (x .span) s) _ _ (ne-eqb (x .span) s e))) ]
+    elim (cases-eq (x .span) s) [
+      | inl e ↦
+          ap (λ ds. each-of s f xs ds) (cond-true (eqb (x .span) s) _ _ (eq-eqb (x .span) s e) ∙ h x cs e (a .0 .2))
+          ∙ each-as s f g h k xs (g x cs) (subst (λ n. All (Fits 31 n) xs) (k x cs) (a .1))
+          ∙ sym (ap (λ ds. each-of s g xs ds) (cond-true (eqb (x .span) s) _ _ (eq-eqb (x .span) s e)))
+      | inr e ↦
+          ap (λ ds. each-of s f xs ds) (cond-false (eqb (x .span) s) _ _ (ne-eqb (x .span) s e))
+          ∙ each-as s f g h k xs cs (a .1)
+          ∙ sym (ap (λ ds. each-of s g xs ds) (cond-false (eqb (x .span) s) _ _ (ne-eqb (x .span) s e)))
+    ]
 
 module _ (q : ℕ) where
   pub ones-as : (xs : List Want) (cs : List Column) → All (Fits 31 (length cs)) xs → each-of 1 (step q) xs cs ≡ each-of 1 raise-one xs cs
@@ -99,7 +100,6 @@ wants-fit t n (c ∷ cs) (a ∷ as′) =
     cond-both (asks-in t n c) (want-of c a ∷ wants t n cs as′) (wants t n cs as′) (All (Fits 31 n))
     (λ is. (asks-fit t n c is, wants-fit t n cs as′))
     (λ not. wants-fit t n cs as′)
-
 
 -- one more span is done
 pub span-more : (f : Want → List Column → List Column) (s : ℕ) (xs : List Want) (cs ds T : List Column) → s < 33 → ds ≡ each-of s f xs cs →

@@ -63,14 +63,14 @@ own-columns b = take (count-of b) (b .columns)
 -- table b after f has been done to its columns; the places past them stay as they are
 abbrev pub with-columns : (List Column → List Column) → Table → Table
 with-columns f b =
-    record
-    { columns = over f 0 (count-of b) (b .columns)
-    ; count = b .count
-    ; spacing = b .spacing
-    ; begun = b .begun
-    ; reached = b .reached
-    ; heights = b .heights
-    ; taken = b .taken
+    record {
+      columns = over f 0 (count-of b) (b .columns);
+      count = b .count;
+      spacing = b .spacing;
+      begun = b .begun;
+      reached = b .reached;
+      heights = b .heights;
+      taken = b .taken;
     }
 
 -- table b with its columns measured for the cells xs

@@ -52,11 +52,9 @@ fn asked(t: usize, n: usize, s: u8, i: usize, cell: &Cell, asks: &[Ask]) -> Opti
 // The columns are raised by all cells of span s, in the order of their numbers.
 fn lift_all(t: usize, spacing: u8, s: u8, cells: &[Cell], asks: &[Ask], cols: &mut [Column])
     requires { ⌜ length (now cols) ≤ 32 ⌝ }
-    ensures {
-        λ _.
-            ⌜ now (cols .exit)
-              ≡ each-of s (step spacing) (wants t (length (now (cols .entry))) (now (cells .entry)) (now (asks .entry))) (now (cols .entry)) ⌝
-    }
+    ensures { λ _.
+        ⌜ now (cols .exit)
+        ≡ each-of s (step spacing) (wants t (length (now (cols .entry))) (now (cells .entry)) (now (asks .entry))) (now (cols .entry)) ⌝ }
 {
     for (i, cell) in cells.iter().enumerate() {
         if let Some(ask) = asked(t, cols.len(), s, i, cell, asks) {
@@ -101,11 +99,9 @@ fn mark_spans(t: usize, n: usize, cells: &[Cell]) -> [bool; 33]
 // The columns are raised by the cells of span 2, then 3, and so on to 32; only the spans that occur are walked.
 fn lift_spans(t: usize, spacing: u8, cells: &[Cell], asks: &[Ask], cols: &mut [Column])
     requires { ⌜ length (now cols) ≤ 32 ⌝ }
-    ensures {
-        λ _.
-            ⌜ now (cols .exit)
-              ≡ spans (step spacing) 31 2 (wants t (length (now (cols .entry))) (now (cells .entry)) (now (asks .entry))) (now (cols .entry)) ⌝
-    }
+    ensures { λ _.
+        ⌜ now (cols .exit)
+        ≡ spans (step spacing) 31 2 (wants t (length (now (cols .entry))) (now (cells .entry)) (now (asks .entry))) (now (cols .entry)) ⌝ }
 {
     let marks = mark_spans(t, cols.len(), cells);
     for s in 2..33u8 {
@@ -118,11 +114,9 @@ fn lift_spans(t: usize, spacing: u8, cells: &[Cell], asks: &[Ask], cols: &mut [C
 // The columns of table t, as its cells ask.
 pub(crate) fn measure(t: usize, spacing: u8, cells: &[Cell], asks: &[Ask], cols: &mut [Column])
     requires { ⌜ length (now cols) ≤ 32 ⌝ }
-    ensures {
-        λ _.
-            ⌜ now (cols .exit)
-              ≡ columns-of spacing (now (cols .entry)) (wants t (length (now (cols .entry))) (now (cells .entry)) (now (asks .entry))) ⌝
-    }
+    ensures { λ _.
+        ⌜ now (cols .exit)
+        ≡ columns-of spacing (now (cols .entry)) (wants t (length (now (cols .entry))) (now (cells .entry)) (now (asks .entry))) ⌝ }
 {
     reset_all(cols);
     lift_all(t, spacing, 1, cells, asks, cols);

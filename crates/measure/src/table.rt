@@ -14,12 +14,10 @@ use plan::Table;
 /// what a cell asks stands at the cell's number; a cell without an ask asks nothing.
 pub fn measure_columns(table: &mut Table, t: usize, cells: &[Cell], asks: &[Ask])
     ensures value { λ _. ⌜ now (table .exit) ≡ measured (now (table .entry)) (wants-of t (now (table .entry)) (now (cells .entry)) (now (asks .entry))) ⌝ }
-    ensures lawful {
-        λ _.
-            ⌜ Lawful (now (table .entry) .spacing)
-              (own-columns (now (table .entry)))
-              (wants-of t (now (table .entry)) (now (cells .entry)) (now (asks .entry))) ⌝
-    }
+    ensures lawful { λ _.
+        ⌜ Lawful (now (table .entry) .spacing)
+        (own-columns (now (table .entry)))
+        (wants-of t (now (table .entry)) (now (cells .entry)) (now (asks .entry))) ⌝ }
 {
     let n = (table.count as usize).min(32);
     measure(t, table.spacing, cells, asks, &mut table.columns[0..n]);

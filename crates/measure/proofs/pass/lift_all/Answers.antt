@@ -13,16 +13,17 @@ loop-i-again c =
     let a = c .args in
     let i = c .loop-i .i in
     let e = c .asked .ensures ∙ ap (λ n. asked (a .t) n (a .s) i (getD (a .cells .now) i blank-cell) (a .asks .now)) (c .loop-i .kept .cols) in
-    elim (c .match-asked .came)
-    [ in-Some w ↦
-        let k = getD (a .cells .now) i blank-cell in
-        let inside = asked-fits (a .t) (length (a .cols .now)) (a .s) i k (a .asks .now) (w .in-Some .ask) (sym e ∙ w .in-Some .is) in
-        one-more (step (a .spacing)) (a .t) (length (a .cols .now)) (a .s) (a .cells .now) (a .asks .now) i (c .loop-i .cols) (c .match-asked .cols) _ _ (omega arith) (sym (w .in-Some .is) ∙ e)
-        (w .cols-is ∙ written (lifted (a .spacing) (w .in-Some .ask)) (k .column) (k .across) (k .column + k .across - k .column) (c .loop-i .cols) (w .lift .last .cols) (omega (arith, inside)) (omega arith) (w .lift .ensures))
-        (c .loop-i .inv)
-    | in-rest w ↦
-        one-more (step (a .spacing)) (a .t) (length (a .cols .now)) (a .s) (a .cells .now) (a .asks .now) i (c .loop-i .cols) (c .match-asked .cols) _ _ (omega arith) (sym (w .in-rest .is) ∙ e)
-        (w .cols-is) (c .loop-i .inv) ]
+    elim (c .match-asked .came) [
+      | in-Some w ↦
+          let k = getD (a .cells .now) i blank-cell in
+          let inside = asked-fits (a .t) (length (a .cols .now)) (a .s) i k (a .asks .now) (w .in-Some .ask) (sym e ∙ w .in-Some .is) in
+          one-more (step (a .spacing)) (a .t) (length (a .cols .now)) (a .s) (a .cells .now) (a .asks .now) i (c .loop-i .cols) (c .match-asked .cols) _ _ (omega arith) (sym (w .in-Some .is) ∙ e)
+          (w .cols-is ∙ written (lifted (a .spacing) (w .in-Some .ask)) (k .column) (k .across) (k .column + k .across - k .column) (c .loop-i .cols) (w .lift .last .cols) (omega (arith, inside)) (omega arith) (w .lift .ensures))
+          (c .loop-i .inv)
+      | in-rest w ↦
+          one-more (step (a .spacing)) (a .t) (length (a .cols .now)) (a .s) (a .cells .now) (a .asks .now) i (c .loop-i .cols) (c .match-asked .cols) _ _ (omega arith) (sym (w .in-rest .is) ∙ e)
+          (w .cols-is) (c .loop-i .inv)
+    ]
 
 pub returns : need.returns
 returns c =

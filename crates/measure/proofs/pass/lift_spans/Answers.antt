@@ -15,15 +15,16 @@ loop-s-again c =
     let f = step (a .spacing) in
     let n = length (a .cols .now) in
     let xs = wants (a .t) n (a .cells .now) (a .asks .now) in
-    elim (c .if-marks-s .came)
-    [ then-marks-s w ↦
-        span-more f s xs (c .loop-s .cols) (c .if-marks-s .cols) _ (omega arith)
-        (w .cols-is ∙ w .lift-all .ensures ∙ ap (λ m. each-of s f (wants (a .t) m (a .cells .now) (a .asks .now)) (c .loop-s .cols)) (c .loop-s .kept .cols))
-        (c .loop-s .inv)
-    | else-marks-s w ↦
-        span-more f s xs (c .loop-s .cols) (c .if-marks-s .cols) _ (omega arith)
-        (w .cols-is ∙ sym (each-absent f (a .t) n s (a .cells .now) (a .asks .now) (c .loop-s .cols) (c .mark-spans-marks .ensures s (w .if-marks-s .left))))
-        (c .loop-s .inv) ]
+    elim (c .if-marks-s .came) [
+      | then-marks-s w ↦
+          span-more f s xs (c .loop-s .cols) (c .if-marks-s .cols) _ (omega arith)
+          (w .cols-is ∙ w .lift-all .ensures ∙ ap (λ m. each-of s f (wants (a .t) m (a .cells .now) (a .asks .now)) (c .loop-s .cols)) (c .loop-s .kept .cols))
+          (c .loop-s .inv)
+      | else-marks-s w ↦
+          span-more f s xs (c .loop-s .cols) (c .if-marks-s .cols) _ (omega arith)
+          (w .cols-is ∙ sym (each-absent f (a .t) n s (a .cells .now) (a .asks .now) (c .loop-s .cols) (c .mark-spans-marks .ensures s (w .if-marks-s .left))))
+          (c .loop-s .inv)
+    ]
 
 pub returns : need.returns
 returns c =

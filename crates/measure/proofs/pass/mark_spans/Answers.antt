@@ -13,16 +13,19 @@ loop-cell-again c =
     let i = c .loop-cell .cell-index in
     let ms = c .loop-cell .marks in
     let k = getD (a .cells .now) i blank-cell in
-    elim (c .if-asks-in .came)
-    [ then-asks-in w ↦
-        let o = asks-across (a .t) (a .n) k (sym (c .asks-in .ensures) ∙ w .if-asks-in .taken) in
-        rw (w .marks-is)
-        ( marked-yes (a .t) (a .n) ms (a .cells .now) i (omega arith) (omega arith) (c .loop-cell .inv .0)
-        , length-set ms (k .across) _ ∙ c .loop-cell .inv .1 )
-    | else-asks-in w ↦
-        rw (w .marks-is)
-        ( marked-no (a .t) (a .n) ms (a .cells .now) i (omega arith) (sym (c .asks-in .ensures) ∙ w .if-asks-in .left) (c .loop-cell .inv .0)
-        , c .loop-cell .inv .1 ) ]
+    elim (c .if-asks-in .came) [
+      | then-asks-in w ↦
+          let o = asks-across (a .t) (a .n) k (sym (c .asks-in .ensures) ∙ w .if-asks-in .taken) in
+          rw (w .marks-is) (
+            marked-yes (a .t) (a .n) ms (a .cells .now) i (omega arith) (omega arith) (c .loop-cell .inv .0),
+            length-set ms (k .across) _ ∙ c .loop-cell .inv .1,
+          )
+      | else-asks-in w ↦
+          rw (w .marks-is) (
+            marked-no (a .t) (a .n) ms (a .cells .now) i (omega arith) (sym (c .asks-in .ensures) ∙ w .if-asks-in .left) (c .loop-cell .inv .0),
+            c .loop-cell .inv .1,
+          )
+    ]
 
 pub returns : need.returns
 returns c =

@@ -19,7 +19,7 @@ within c =
     let W = c .saturating-sub-need .result in
     let D = c .weigh-all-even .result in
     let r : c .loop-c .before + c .weigh .result ≤ D =
-        omega (arith, sum-more (weight (c .all-share-all .result)) (c .loop-c .cols) (c .loop-c .c-index) (omega arith)) in
+    omega (arith, sum-more (weight (c .all-share-all .result)) (c .loop-c .cols) (c .loop-c .c-index) (omega arith)) in
     omega (arith, part-le-whole W D (c .loop-c .before + c .weigh .result) (W * c .loop-c .before / D) r)
 
 pub add-upto : need.add-upto
@@ -39,17 +39,18 @@ loop-c-again c =
     let lt : i < length cs = omega arith in
     let d = drop-set-lt (i + 1) cs i (c .grow .last .c) (omega arith) in
     let w = sum-more (weight all) cs i lt in
-    let l = sum-more (bound-of (c .args .bound)) cs i lt in
-    ( dealt-more (weight all) (more (c .args .bound)) (c .saturating-sub-need .result) (c .weigh-all-even .result) (c .loop-c .before) cs i
-      (c .weigh .result) (c .part .result) (c .grow .last .c) _ lt (c .weigh .ensures) (c .part .ensures .value) (c .grow .ensures) (c .loop-c .inv .0)
-    , rw d (omega arith)
-    , rw d (omega arith) )
+    let l = sum-more (bound-of (c .args .bound)) cs i lt in (
+      dealt-more (weight all) (more (c .args .bound)) (c .saturating-sub-need .result) (c .weigh-all-even .result) (c .loop-c .before) cs i
+          (c .weigh .result) (c .part .result) (c .grow .last .c) _ lt (c .weigh .ensures) (c .part .ensures .value) (c .grow .ensures) (c .loop-c .inv .0),
+      rw d (omega arith),
+      rw d (omega arith),
+    )
 
 pub returns : need.returns
 returns c =
     let all = c .all-share-all .result in
     let a = dealt-all (weight all) (more (c .args .bound)) (c .saturating-sub-need .result) (c .weigh-all-even .result) (c .loop-c .before) (c .loop-c .cols) (c .loop-c .c-index) _
-        (omega arith) (c .loop-c .inv .0) in
+    (omega arith) (c .loop-c .inv .0) in
     meet-from (c .args .bound) (c .args .spacing) (c .args .wanted) (c .args .cols .now) (c .loop-c .cols) (c .sum-of-has .result) (c .saturating-sub .result) (c .saturating-sub-need .result)
     all (c .weigh-all-even .result)
     (c .sum-of-has .ensures .value) (c .saturating-sub .ensures) (c .saturating-sub-need .ensures) (c .all-share-all .ensures) (c .weigh-all-even .ensures) a

@@ -12,6 +12,6 @@ use Rattle.measure.proofs.span.meet_bound.Given as given
 abbrev pub Inv-loop-c : given.InvT-loop-c
 Inv-loop-c l =
     (take (l .c-index) (l .cols) ++ dealt (weight (l .all)) (more (l .bound)) (l .need) (l .even) (l .before) (drop (l .c-index) (l .cols))
-     ≡ dealt (weight (l .all)) (more (l .bound)) (l .need) (l .even) 0 (l .entry .cols))
+    ≡ dealt (weight (l .all)) (more (l .bound)) (l .need) (l .even) 0 (l .entry .cols))
     × (l .before + total (map (weight (l .all)) (drop (l .c-index) (l .cols))) ≡ l .even)
     × (total (map (bound-of (l .bound)) (drop (l .c-index) (l .cols))) ≤ l .has)

@@ -18,10 +18,10 @@ returns c =
     let own = own-long b n long is in
     let xs = wants-of (c .args .t) b (c .args .cells .now) (c .args .asks .now) in
     let done =
-        c .measure .ensures
-        ∙ ap (λ cs. columns-of (b .spacing) cs (wants (c .args .t) (length cs) (c .args .cells .now) (c .args .asks .now))) (part-is b n long is)
-        ∙ ap (λ m. columns-of (b .spacing) (own-columns b) (wants (c .args .t) m (c .args .cells .now) (c .args .asks .now))) own in
-    record
-    { value = columns-written b n long is (λ cs. columns-of (b .spacing) cs xs) (c .measure .last .cols) done
-    ; lawful = columns-are-lawful (b .spacing) (own-columns b) xs (rw own (wants-fit (c .args .t) (count-of b) (c .args .cells .now) (c .args .asks .now)))
+    c .measure .ensures
+    ∙ ap (λ cs. columns-of (b .spacing) cs (wants (c .args .t) (length cs) (c .args .cells .now) (c .args .asks .now))) (part-is b n long is)
+    ∙ ap (λ m. columns-of (b .spacing) (own-columns b) (wants (c .args .t) m (c .args .cells .now) (c .args .asks .now))) own in
+    record {
+      value = columns-written b n long is (λ cs. columns-of (b .spacing) cs xs) (c .measure .last .cols) done;
+      lawful = columns-are-lawful (b .spacing) (own-columns b) xs (rw own (wants-fit (c .args .t) (count-of b) (c .args .cells .now) (c .args .asks .now)));
     }

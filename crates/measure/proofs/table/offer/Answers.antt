@@ -16,8 +16,8 @@ returns c =
     let long : length (b .columns) ≡ 32 = omega arith in
     let is : n ≡ count-of b = c .min-n .ensures in
     let part = part-is b n long is in
-    record
-    { value = columns-written b n long is (given-of (b .spacing) (c .args .width)) (c .give .last .cols) (c .give .ensures .widths ∙ ap (given-of (b .spacing) (c .args .width)) part)
-    ; overflow = c .give .ensures .overflow ∙ ap (λ cs. overflow-of (b .spacing) cs (c .args .width)) part
-    ; lawful = offers-are-lawful (b .spacing) (own-columns b) (c .args .width)
+    record {
+      value = columns-written b n long is (given-of (b .spacing) (c .args .width)) (c .give .last .cols) (c .give .ensures .widths ∙ ap (given-of (b .spacing) (c .args .width)) part);
+      overflow = c .give .ensures .overflow ∙ ap (λ cs. overflow-of (b .spacing) cs (c .args .width)) part;
+      lawful = offers-are-lawful (b .spacing) (own-columns b) (c .args .width);
     }

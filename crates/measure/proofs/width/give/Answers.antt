@@ -20,12 +20,13 @@ returns c =
     let A = c .args .offered in
     let cs = c .args .cols .now in
     let ds = c .if-offered-least .cols in
-    record
-    { widths =
-        elim (c .if-offered-least .came)
-        [ then-offered-least w ↦ gives-least q A cs ds (omega arith) (w .cols-is ∙ w .settle-all .ensures)
-        | else-offered-least·then-greatest-offered w ↦ gives-greatest q A cs ds (omega arith) (omega arith) (w .cols-is ∙ w .settle-all-then-greatest-offered .ensures)
-        | else-offered-least·else-greatest-offered w ↦
-            gives-between q A cs ds (c .sum-of .result) (c .sum-of .ensures .value) (omega arith) (omega arith) (w .cols-is ∙ w .widen-all .ensures) ]
-    ; overflow = omega arith
+    record {
+      widths =
+          elim (c .if-offered-least .came) [
+            | then-offered-least w ↦ gives-least q A cs ds (omega arith) (w .cols-is ∙ w .settle-all .ensures)
+            | else-offered-least·then-greatest-offered w ↦ gives-greatest q A cs ds (omega arith) (omega arith) (w .cols-is ∙ w .settle-all-then-greatest-offered .ensures)
+            | else-offered-least·else-greatest-offered w ↦
+                gives-between q A cs ds (c .sum-of .result) (c .sum-of .ensures .value) (omega arith) (omega arith) (w .cols-is ∙ w .widen-all .ensures)
+          ];
+      overflow = omega arith;
     }

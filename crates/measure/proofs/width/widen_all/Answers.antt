@@ -27,10 +27,11 @@ loop-c-again c =
     let i = c .loop-c .c-index in
     let lt : i < length cs = omega arith in
     let d = drop-set-lt (i + 1) cs i (c .widen .last .c) (omega arith) in
-    let w = sum-more spread cs i lt in
-    ( dealt-more spread past (c .args .extra) (c .sum-spreads-sum .result) (c .loop-c .before) cs i
-      (c .spread-of .result) (c .part .result) (c .widen .last .c) _ lt (c .spread-of .ensures) (c .part .ensures .value) (c .widen .ensures) (c .loop-c .inv .0)
-    , rw d (omega arith) )
+    let w = sum-more spread cs i lt in (
+      dealt-more spread past (c .args .extra) (c .sum-spreads-sum .result) (c .loop-c .before) cs i
+          (c .spread-of .result) (c .part .result) (c .widen .last .c) _ lt (c .spread-of .ensures) (c .part .ensures .value) (c .widen .ensures) (c .loop-c .inv .0),
+      rw d (omega arith),
+    )
 
 pub returns : need.returns
 returns c =

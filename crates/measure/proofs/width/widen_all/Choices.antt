@@ -12,5 +12,5 @@ use Rattle.measure.proofs.width.widen_all.Given as given
 abbrev pub Inv-loop-c : given.InvT-loop-c
 Inv-loop-c l =
     (take (l .c-index) (l .cols) ++ dealt spread past (l .extra) (l .sum) (l .before) (drop (l .c-index) (l .cols))
-     ≡ dealt spread past (l .extra) (l .sum) 0 (l .entry .cols))
+    ≡ dealt spread past (l .extra) (l .sum) 0 (l .entry .cols))
     × (l .before + total (spreads (drop (l .c-index) (l .cols))) ≡ l .sum)
