@@ -2,8 +2,7 @@
 use Rattle.std.specs.Prelude.{◌≡◌, ℕ, List, Ok, Err, Result}
 use Rattle.fault.specs.declared.Fault.{Fault}
 use Rattle.runs.specs.State.{State, state_of}
-use Rattle.plan.specs.declared.record.Rect.{Rect}
-use Rattle.runs.specs.Calls.{Answer, Done, Number, At, Outcome}
+use Rattle.runs.specs.Calls.{Answer, Done, Number, Outcome}
 use Rattle.engine.specs.declared.hold.Sheet.{Sheet}
 
 abbrev pub state : Sheet → State
@@ -22,8 +21,3 @@ DidSo = Did (λ _. Done)
 -- a call that answers a number
 abbrev pub DidNumber : Result Outcome Fault → Sheet → Sheet → Result ℕ Fault → Type 0
 DidNumber = Did Number
-
--- a call that looks at a box, and changes nothing
-abbrev pub SawBox : Result Outcome Fault → Sheet → Result Rect Fault → Type 0
-SawBox want m (Ok r) = want ≡ Ok (record { answer = At r; after = state m })
-SawBox want m (Err f) = want ≡ Err f

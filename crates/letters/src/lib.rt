@@ -1,7 +1,7 @@
 // The characters that the bytes of a content stand for.
 ghost use Rattle.std.specs.Prelude.{◌≡◌, ◌<◌, ◌≤◌, length, drop, MatchOption};
 ghost use Rattle.bytes.specs.Classes.{white};
-ghost use Rattle.letters.specs.Letters.{begins, plain, allowed, itself, letter_of, letter_at, Stepped};
+ghost use Rattle.letters.specs.Letters.{begins, plain, allowed, letter_of, letter_at, Stepped};
 ghost use Rattle.letters.specs.Verdicts.{ends_badly, reason_of, verdict, Judged};
 
 use bytes::{Class, class_of};
@@ -53,23 +53,10 @@ fn starts(rest: &[u8], what: &[u8]) -> bool
     rest.starts_with(what)
 }
 
-// The character of the first byte alone.
-fn itself(kind: Kind, rest: &[u8]) -> (u8, usize)
-    ensures { result ≡ itself kind rest.now }
-{
-    if rest.len() > 0 && is_plain(kind, rest[0]) {
-        return (rest[0], 0);
-    }
-    (0, 0)
-}
-
-// The character that the bytes begin with, and how many bytes more than one it takes. Only an "&" begins a reference.
+// The character that the bytes begin with, and how many bytes more than one it takes.
 fn first_letter(kind: Kind, rest: &[u8]) -> (u8, usize)
     ensures { result ≡ letter_of kind rest.now }
 {
-    if rest.is_empty() || rest[0] != b'&' {
-        return itself(kind, rest);
-    }
     if starts(rest, b"&lt;") {
         return (b'<', 3);
     }
@@ -81,6 +68,9 @@ fn first_letter(kind: Kind, rest: &[u8]) -> (u8, usize)
     }
     if starts(rest, b"&quot;") {
         return (b'"', 5);
+    }
+    if rest.len() > 0 && is_plain(kind, rest[0]) {
+        return (rest[0], 0);
     }
     (0, 0)
 }
@@ -129,13 +119,11 @@ fn is_badly_ended(kind: Kind, s: &[u8], at: usize) -> bool
     false
 }
 
-/// Why no character begins at a byte. Past the last byte it is the reason of a byte that is not allowed.
-pub fn reason_at(kind: Kind, s: &[u8], at: usize) -> Reason
+// Why no character begins at a byte.
+fn reason_at(kind: Kind, s: &[u8], at: usize) -> Reason
+    requires { at < length s.now }
     ensures { result ≡ reason_of kind (drop at s.now) }
 {
-    if at >= s.len() {
-        return Reason::ByteNotAllowed;
-    }
     let b = s[at];
     if b == b'<' {
         return Reason::Malformed;

@@ -1,10 +1,10 @@
 -- A share over columns, one after another.
 -- Assumes nothing.
-use Rattle.std.proofs.Common.{◌≡◌, ℕ, ◌+◌, ◌-◌, ◌*◌, ◌/◌, ◌<◌, ◌≤◌, Bool, true, false, List, [], ◌∷◌, ◌++◌, map, length, get_or, take, drop, set, refl, ap, le_refl, mul-le-mul_left, arith}
+use Rattle.std.proofs.Common.{◌≡◌, ℕ, zero, suc, ◌+◌, ◌-◌, ◌*◌, ◌/◌, ◌<◌, ◌≤◌, Bool, true, false, eqb, List, [], ◌∷◌, ◌++◌, map, length, get_or, take, drop, set, sym, refl, ap, ◌∙◌, le_refl, mul-le-mul_left, arith}
 use native.Mathlib.Nat.{div-le_of_le-mul}
-use Rattle.std.proofs.lemmas.List.{at_drop_more, at_drop_all, take_more_set, drop-set-lt, append_assoc, append-nil, take_all, take_more, get_or-map, length-map}
+use Rattle.std.proofs.lemmas.List.{at_drop_more, at_drop_all, take_more_set, drop-set-lt, append_assoc, append-nil, take_all}
 use Rattle.std.proofs.lemmas.Bool.{cond_both}
-use Rattle.share.specs.Share.{total, parts_from}
+use Rattle.share.specs.Share.{total, parts_from, parts, brings}
 use Rattle.plan.specs.declared.record.Column.{Column}
 use Rattle.plan.specs.Blank.{blank_column}
 use Rattle.columns.specs.Columns.{free, weight, with_parts, need}
@@ -93,21 +93,3 @@ mapped_all f cs i T h e =
     let s = at_drop_all (map f) cs i h in
     let a = append-nil cs in
     cc
-
--- what f says of each member is written elsewhere: one more, and all
-module _ {A B : Type 0} (f : A → B) (xs : List A) (ys : List B) (i : ℕ) where
-  pub copied_more : (d : A) (v : B) → i < length xs → i < length ys → v ≡ f (get_or xs i d) →
-      take i ys ≡ take i (map f xs) → take (i + 1) (set ys i v) ≡ take (i + 1) (map f xs)
-  copied_more d v h l ev e =
-      let long = length-map xs f in
-      let here = get_or-map f xs i d v h in
-      let t = take_more_set ys i v l in
-      let m = take_more (map f xs) i v (omega arith) in
-      cc
-
-  pub copied_all : length xs ≤ i → length ys ≤ i → take i ys ≡ take i (map f xs) → ys ≡ map f xs
-  copied_all h l e =
-      let long = length-map xs f in
-      let t = take_all i ys l in
-      let m = take_all i (map f xs) (omega arith) in
-      cc

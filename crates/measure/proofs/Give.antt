@@ -1,6 +1,6 @@
 -- The widths that the code gives are those that the offer gives.
 -- Assumes nothing.
-use Rattle.std.proofs.Common.{◌≡◌, ℕ, ◌+◌, ◌-◌, ◌*◌, ◌/◌, ◌<◌, ◌≤◌, List, [], ◌∷◌, map, sym, refl, ap, ◌∙◌, arith}
+use Rattle.std.proofs.Common.{◌≡◌, ℕ, ◌+◌, ◌-◌, ◌*◌, ◌/◌, ◌<◌, ◌≤◌, List, [], ◌∷◌, map, length, sym, refl, ap, ◌∙◌, mul-le-mul_left, arith}
 use Rattle.std.proofs.lemmas.Bool.{cond-true, cond-false, le-leb, lt-leb}
 use Rattle.share.specs.Share.{total, parts_from, parts}
 use Rattle.plan.specs.declared.record.Column.{Column}
@@ -8,7 +8,7 @@ use Rattle.columns.specs.Columns.{leasts, greatests, spreads, sums, widths_of, l
 use Rattle.measure.specs.declared.column.Bound.{Bound}
 use Rattle.measure.specs.declared.column.Bound.TheVariants.{Least, Greatest}
 use Rattle.measure.specs.Bounds.{bound_of}
-use Rattle.columns.specs.Tables.{as_wide, with_widths, given_of}
+use Rattle.measure.specs.Widths.{as_wide, with_widths, given_of}
 use Rattle.columns.proofs.Offer.{offer_short}
 use Rattle.measure.proofs.Deal.{dealt}
 
@@ -46,9 +46,16 @@ module _ (q A : ℕ) (cs ds : List Column) where
       e ∙ settled_all Greatest cs
       ∙ sym (ap (λ ws. with_widths ws cs) (cond-false _ _ _ (lt-leb A (least_width q cs) l) ∙ cond-true _ _ _ (le-leb (greatest_width q cs) A h)))
 
-  pub gives_between : (L : ℕ) → L ≡ least_width q cs → least_width q cs < A → A < greatest_width q cs →
-      ds ≡ with_widths (sums (leasts cs) (parts (A - L) (spreads cs))) cs → ds ≡ given_of q A cs
+  pub gives_between : (n : ℕ) → n ≡ total (leasts cs) → least_width q cs < A → A < greatest_width q cs →
+      ds ≡ with_widths (sums (leasts cs) (parts (A - (n + q * (length cs + 1))) (spreads cs))) cs → ds ≡ given_of q A cs
   unfolding widths_of
-  gives_between L is l h e =
-      e ∙ ap (λ m. with_widths (sums (leasts cs) (parts (A - m) (spreads cs))) cs) is
+  gives_between n en l h e =
+      e ∙ ap (λ m. with_widths (sums (leasts cs) (parts (A - (m + q * (length cs + 1))) (spreads cs))) cs) en
       ∙ sym (ap (λ ws. with_widths ws cs) (cond-false _ _ _ (lt-leb A (least_width q cs) l) ∙ cond-false _ _ _ (lt-leb (greatest_width q cs) A h)))
+
+-- the spacings around the columns are small
+pub around_small : (q n : ℕ) → q ≤ 255 → n ≤ 32 → q * (n + 1) ≤ 8415
+around_small q n hq hn =
+    let less : n + 1 ≤ 33 = omega arith in
+    let m : q * (n + 1) ≤ q * 33 = mul-le-mul_left q less in
+    omega arith

@@ -4,4 +4,3 @@ pub mod Marks
 pub mod Walk
 pub mod Give
 pub mod Whole
-pub mod Sizes

@@ -1,19 +1,17 @@
 -- What the code does to the columns of one cell, and of all cells of a span, is what the pass says.
 -- Assumes nothing.
-use Rattle.std.proofs.Common.{◌≡◌, ℕ, zero, suc, ◌+◌, ◌-◌, ◌<◌, ◌≤◌, Bool, true, false, cond, ◌&&◌, eqb, ltb, List, [], ◌∷◌, map, length, get_or, take, drop, set, Some, None, Option, sym, refl, ap, ◌∙◌, inl, inr, arith}
+use Rattle.std.proofs.Common.{◌≡◌, ℕ, zero, suc, ◌+◌, ◌-◌, ◌<◌, ◌≤◌, Bool, true, false, cond, ◌&&◌, eqb, ltb, leb, ◌⊎◌, List, [], ◌∷◌, ◌++◌, map, length, get_or, take, drop, set, Some, None, Option, sym, refl, ap, ◌∙◌, inl, inr, arith}
 use borrow.Rule.Slice.PartMut.{put_mid}
 use Rattle.std.proofs.lemmas.List.{drop_all, drop_more}
-use Rattle.std.proofs.lemmas.Bool.{cond-true, cond-false, eq-eqb, eqb-true, cases_lt, lt-ltb, le-ltb, and_left, and_right, and_parts, false≢true}
-use Rattle.plan.specs.declared.record.Axis.{Axis}
+use Rattle.std.proofs.lemmas.Bool.{cond-true, cond-false, eq-eqb, cases_lt, lt-ltb, le-ltb, leb-true, and_left, and_right, and_parts, false≢true}
 use Rattle.plan.specs.declared.record.Cell.{Cell}
 use Rattle.plan.specs.declared.record.Column.{Column}
 use Rattle.plan.specs.Blank.{blank_column, blank_cell}
+use Rattle.plan.specs.Steps.{from_to}
 use Rattle.columns.specs.Columns.{over, each_of}
-use Rattle.columns.specs.Tables.{first_of, span_of, lies_in}
 use Rattle.columns.specs.Wants.{Want}
-use Rattle.columns.proofs.Lies.{lies_fit}
 use Rattle.measure.specs.declared.ask.Ask.{Ask}
-use Rattle.measure.specs.Asks.{raised_by, lifted, want_of, wants, asked, no_ask}
+use Rattle.measure.specs.Asks.{raised_by, lifted, want_of, asks_in, wants, asked, no_ask, step}
 
 -- one column alone is set
 pub one_set : (f : Column → Column) (cs : List Column) (c : Column) → length cs ≡ 1 → c ≡ f (get_or cs 0 blank_column) → set cs 0 c ≡ map f cs
@@ -34,58 +32,56 @@ over_is f (suc i) k (x ∷ xs) h = ap (λ ys. x ∷ ys) (over_is f i k xs (omega
 pub written : {A : Type 0} (f : List A → List A) (i k n : ℕ) (xs ys : List A) → i ≤ length xs → n ≡ k → ys ≡ f (take n (drop i xs)) → put_mid i n xs ys ≡ over f i k xs
 written f i k n xs ys h e ey = let o = over_is f i k xs h in cc
 
-module _ (x : Axis) where
-  -- what a cell that asks makes of the columns
-  abbrev pub done : (Want → List Column → List Column) → Cell → Option Ask → List Column → List Column
-  done f c None ds = ds
-  done f c (Some a) ds = f (want_of x c a) ds
+-- what a cell that asks makes of the columns
+abbrev pub done : (Want → List Column → List Column) → Cell → Option Ask → List Column → List Column
+done f c None ds = ds
+done f c (Some a) ds = f (want_of c a) ds
 
-module _ (x : Axis) (t n : ℕ) where
-  wants_none : (cs : List Cell) → wants x t n cs [] ≡ []
-  wants_none [] = refl
-  wants_none (c ∷ cs) = refl
+wants_none : (t n : ℕ) (cs : List Cell) → wants t n cs [] ≡ []
+wants_none t n [] = refl
+wants_none t n (c ∷ cs) = refl
 
-module _ (f : Want → List Column → List Column) (x : Axis) (t n s : ℕ) where
+module _ (f : Want → List Column → List Column) (t n s : ℕ) where
   -- what these cells make of the columns
   abbrev rest : List Cell → List Ask → List Column → List Column
-  rest cs as' ds = each_of s f (wants x t n cs as') ds
+  rest cs as' ds = each_of s f (wants t n cs as') ds
 
-  head_by : (c : Cell) (a : Ask) (xs : List Want) (ds : List Column) (b e : Bool) → eqb (span_of x c) s ≡ e →
-      each_of s f (cond b (want_of x c a ∷ xs) xs) ds ≡ each_of s f xs (done x f c (cond (e && b) (Some a) None) ds)
+  head_by : (c : Cell) (a : Ask) (xs : List Want) (ds : List Column) (b e : Bool) → eqb c.across s ≡ e →
+      each_of s f (cond b (want_of c a ∷ xs) xs) ds ≡ each_of s f xs (done f c (cond (e && b) (Some a) None) ds)
   unfolding each_of
-  head_by c a xs ds true true h = ap (λ es. each_of s f xs es) (cond-true (eqb (span_of x c) s) _ _ h)
-  head_by c a xs ds true false h = ap (λ es. each_of s f xs es) (cond-false (eqb (span_of x c) s) _ _ h)
+  head_by c a xs ds true true h = ap (λ es. each_of s f xs es) (cond-true (eqb c.across s) _ _ h)
+  head_by c a xs ds true false h = ap (λ es. each_of s f xs es) (cond-false (eqb c.across s) _ _ h)
   head_by c a xs ds false true h = refl
   head_by c a xs ds false false h = refl
 
   rest_none : (i : ℕ) (cs : List Cell) (as' : List Ask) (ds : List Column) → length as' ≤ i → rest cs (drop i as') ds ≡ ds
   unfolding each_of
-  rest_none i cs as' ds h = ap (λ bs. rest cs bs ds) (drop_all i as' h) ∙ ap (λ xs. each_of s f xs ds) (wants_none x t n cs)
+  rest_none i cs as' ds h = ap (λ bs. rest cs bs ds) (drop_all i as' h) ∙ ap (λ xs. each_of s f xs ds) (wants_none t n cs)
 
   pub rest_all : (i : ℕ) (cs : List Cell) (as' : List Ask) (ds : List Column) → length cs ≤ i → rest (drop i cs) as' ds ≡ ds
   unfolding each_of
   rest_all i cs as' ds h = ap (λ bs. rest bs as' ds) (drop_all i cs h)
 
   pub rest_more : (cs : List Cell) (as' : List Ask) (i : ℕ) (ds : List Column) → i < length cs →
-      rest (drop i cs) (drop i as') ds ≡ rest (drop (i + 1) cs) (drop (i + 1) as') (done x f (get_or cs i blank_cell) (asked x t n s i (get_or cs i blank_cell) as') ds)
+      rest (drop i cs) (drop i as') ds ≡ rest (drop (i + 1) cs) (drop (i + 1) as') (done f (get_or cs i blank_cell) (asked t n s i (get_or cs i blank_cell) as') ds)
   rest_more cs as' i ds h =
       let c = get_or cs i blank_cell in
       elim (cases_lt i (length as')) [
         | inl l ↦
             ap (λ bs. rest bs (drop i as') ds) (drop_more cs i blank_cell h) ∙
             ap (λ bs. rest (c ∷ drop (i + 1) cs) bs ds) (drop_more as' i no_ask l) ∙
-            head_by c (get_or as' i no_ask) (wants x t n (drop (i + 1) cs) (drop (i + 1) as')) ds (lies_in x t n c) (eqb (span_of x c) s) refl ∙
-            ap (λ b. rest (drop (i + 1) cs) (drop (i + 1) as') (done x f c (cond (eqb (span_of x c) s && (b && lies_in x t n c)) (Some (get_or as' i no_ask)) None) ds))
+            head_by c (get_or as' i no_ask) (wants t n (drop (i + 1) cs) (drop (i + 1) as')) ds (asks_in t n c) (eqb c.across s) refl ∙
+            ap (λ b. rest (drop (i + 1) cs) (drop (i + 1) as') (done f c (cond (eqb c.across s && (b && asks_in t n c)) (Some (get_or as' i no_ask)) None) ds))
             (sym (lt-ltb i (length as') l))
         | inr g ↦
             rest_none i (drop i cs) as' ds g ∙
-            sym (ap (λ r. done x f c r ds) (cond-false _ _ _ (and_right (eqb (span_of x c) s) _ (and_left _ (lies_in x t n c) (le-ltb i (length as') g))))) ∙
+            sym (ap (λ r. done f c r ds) (cond-false _ _ _ (and_right (eqb c.across s) _ (and_left _ (asks_in t n c) (le-ltb i (length as') g))))) ∙
             sym (rest_none (i + 1) (drop (i + 1) cs) as' _ (omega arith))
       ]
 
   -- one more cell is done
   pub one_more : (cs : List Cell) (as' : List Ask) (i : ℕ) (ds es T : List Column) (r : Option Ask) → i < length cs →
-      r ≡ asked x t n s i (get_or cs i blank_cell) as' → es ≡ done x f (get_or cs i blank_cell) r ds →
+      r ≡ asked t n s i (get_or cs i blank_cell) as' → es ≡ done f (get_or cs i blank_cell) r ds →
       rest (drop i cs) (drop i as') ds ≡ T → rest (drop (i + 1) cs) (drop (i + 1) as') es ≡ T
   one_more cs as' i ds es T r h er ee e = let m = rest_more cs as' i ds h in cc
 
@@ -97,12 +93,10 @@ since_some : {A : Type 0} (b : Bool) (a x : A) → cond b (Some a) None ≡ Some
 since_some true a x e = refl
 since_some false a x e = absurd (false≢true (ap is_some e))
 
--- a cell that asks for s tracks spans s of those there are
-pub asked_fits : (x : Axis) (t n s i : ℕ) (c : Cell) (as' : List Ask) (a : Ask) → asked x t n s i c as' ≡ Some a →
-    (span_of x c ≡ s) × (1 ≤ s) × (first_of x c + s ≤ n)
-asked_fits x t n s i c as' a e =
-    let one = and_parts (eqb (span_of x c) s) (ltb i (length as') && lies_in x t n c) (since_some _ _ a e) in
-    let two = and_parts (ltb i (length as')) (lies_in x t n c) one.1 in
-    let is : span_of x c ≡ s = eqb-true _ _ one.0 in
-    let fit = lies_fit x t n c two.1 in
-    (is, omega (arith, fit.0), omega (arith, fit.2))
+-- a cell that asks lies in the columns
+pub asked_fits : (t n s i : ℕ) (c : Cell) (as' : List Ask) (a : Ask) → asked t n s i c as' ≡ Some a → c.column + c.across ≤ n
+asked_fits t n s i c as' a e =
+    let one = and_parts (eqb c.across s) (ltb i (length as') && asks_in t n c) (since_some _ _ a e) in
+    let two = and_parts (ltb i (length as')) (asks_in t n c) one.1 in
+    let three = and_parts (eqb c.table t) (from_to 1 32 c.across && leb (c.column + c.across) n) two.1 in
+    leb-true _ _ (and_parts (from_to 1 32 c.across) (leb (c.column + c.across) n) three.1).1

@@ -1,12 +1,11 @@
 -- What the cells of a table ask, as the code has it: the cells, and beside each what it asks.
-use Rattle.std.specs.Prelude.{◌≡◌, ℕ, max, true, cond, ◌&&◌, List, [], ◌∷◌, map, length, Some, None, Option, ◌==◌, ◌≢◌, nat_lt, slice_index_or}
+use Rattle.std.specs.Prelude.{◌≡◌, ℕ, ◌+◌, max, Bool, true, cond, ◌&&◌, List, [], ◌∷◌, map, length, take, Some, None, Option, ◌==◌, ◌≢◌, nat_le, nat_lt, slice_index_or}
 use Rattle.std.specs.List.{AllByRecursion as All}
-use Rattle.plan.specs.declared.record.Axis.{Axis}
 use Rattle.plan.specs.declared.record.Cell.{Cell}
 use Rattle.plan.specs.declared.record.Column.{Column}
 use Rattle.plan.specs.declared.record.Table.{Table}
-use Rattle.columns.specs.Columns.{over}
-use Rattle.columns.specs.Tables.{track_count, first_of, span_of, lies_in}
+use Rattle.plan.specs.Steps.{from_to, columns_of as count_of}
+use Rattle.columns.specs.Columns.{over, columns_of}
 use Rattle.columns.specs.Wants.{Want}
 use Rattle.measure.specs.Bounds.{meet}
 use Rattle.measure.specs.declared.ask.Ask.{Ask}
@@ -21,32 +20,56 @@ abbrev pub lifted : ℕ → Ask → List Column → List Column
 lifted q a cs =
     cond (length cs == 1) (map (raised_by a) cs) (meet Greatest q (length cs) a.greatest (meet Least q (length cs) a.least cs))
 
--- a cell of any span raises the columns that it spans
-abbrev pub step : ℕ → Want → List Column → List Column
-step q x cs = over (lifted q (record { least = x.minimum; greatest = x.maximum })) x.first x.span cs
+-- what cell c asks of the columns
+abbrev pub want_of : Cell → Ask → Want
+want_of c a = record { first = c.column; span = c.across; minimum = a.least; maximum = a.greatest }
+
+-- the cell is one of table t and lies in its n columns
+abbrev pub asks_in : ℕ → ℕ → Cell → Bool
+asks_in t n c = c.table == t && (from_to 1 32 c.across && nat_le (c.column + c.across) n)
+
+-- what the cells of table t ask of its n columns, in the order of their numbers
+abbrev pub wants : ℕ → ℕ → List Cell → List Ask → List Want
+wants t n [] as' = []
+wants t n (c ∷ cs) [] = []
+wants t n (c ∷ cs) (a ∷ as') = cond (asks_in t n c) (want_of c a ∷ wants t n cs as') (wants t n cs as')
 
 abbrev pub no_ask : Ask
 no_ask = record { least = 0; greatest = 0 }
 
--- what cell c asks of the tracks of axis x
-abbrev pub want_of : Axis → Cell → Ask → Want
-want_of x c a = record { first = first_of x c; span = span_of x c; minimum = a.least; maximum = a.greatest }
+-- what cell i asks, if it spans s of the n columns of table t
+abbrev pub asked : ℕ → ℕ → ℕ → ℕ → Cell → List Ask → Option Ask
+asked t n s i c as' = cond (c.across == s && (nat_lt i (length as') && asks_in t n c)) (Some (slice_index_or as' i no_ask)) None
 
-module _ (x : Axis) (t n : ℕ) where
-  -- what the cells of table t ask of its n tracks, in the order of their numbers
-  abbrev pub wants : List Cell → List Ask → List Want
-  wants [] as' = []
-  wants (c ∷ cs) [] = []
-  wants (c ∷ cs) (a ∷ as') = cond (lies_in x t n c) (want_of x c a ∷ wants cs as') (wants cs as')
+-- a cell of any span raises the columns that it spans
+abbrev pub step : ℕ → Want → List Column → List Column
+step q x cs = over (lifted q (record { least = x.minimum; greatest = x.maximum })) x.first x.span cs
 
-  -- what cell i asks, if it spans s of the n tracks of table t
-  abbrev pub asked : ℕ → ℕ → Cell → List Ask → Option Ask
-  asked s i c as' = cond (span_of x c == s && (nat_lt i (length as') && lies_in x t n c)) (Some (slice_index_or as' i no_ask)) None
+-- no cell asks for s of the n columns of table t
+abbrev pub Absent : ℕ → ℕ → ℕ → List Cell → Type 0
+Absent t n s cs = All (λ c. asks_in t n c ≡ true → c.across ≢ s) cs
 
-  -- no cell asks for s of the n tracks of table t
-  abbrev pub Absent : ℕ → List Cell → Type 0
-  Absent s cs = All (λ c. lies_in x t n c ≡ true → span_of x c ≢ s) cs
+-- the columns that table b has
+abbrev pub own_columns : Table → List Column
+own_columns b = take (count_of b) b.columns
 
--- what cells ask of the tracks of table b, where it is table t
-abbrev pub wants_of : Axis → ℕ → Table → List Cell → List Ask → List Want
-wants_of x t b cs as' = wants x t (track_count x b) cs as'
+-- table b after f has been done to its columns; the places past them stay as they are
+abbrev pub with_columns : (List Column → List Column) → Table → Table
+with_columns f b =
+    record {
+      columns = over f 0 (count_of b) b.columns;
+      count = b.count;
+      spacing = b.spacing;
+      begun = b.begun;
+      reached = b.reached;
+      heights = b.heights;
+      taken = b.taken;
+    }
+
+-- table b with its columns measured for the cells xs
+abbrev pub measured : Table → List Want → Table
+measured b xs = with_columns (λ cs. columns_of b.spacing cs xs) b
+
+-- what cells ask of the columns of table b, where it is table t
+abbrev pub wants_of : ℕ → Table → List Cell → List Ask → List Want
+wants_of t b cs as' = wants t (count_of b) cs as'

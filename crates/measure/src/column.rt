@@ -1,6 +1,5 @@
 // One column is raised.
 ghost use Rattle.std.specs.Prelude.{◌≡◌, ◌-◌, ◌≤◌};
-ghost use Rattle.plan.specs.Blank.{blank_column};
 ghost use Rattle.columns.specs.Columns.{free, weight, fresh, held};
 ghost use Rattle.measure.specs.Asks.{raised_by};
 ghost use Rattle.measure.specs.Bounds.{bound_of, more};
@@ -13,18 +12,6 @@ use plan::{Column, Sizing};
 pub(crate) enum Bound {
     Least,
     Greatest,
-}
-
-// A free column that is not measured yet.
-pub(crate) fn blank() -> Column
-    ensures { result ≡ blank_column }
-{
-    Column {
-        sizing: Sizing::Free,
-        least: 0,
-        greatest: 0,
-        width: 0,
-    }
 }
 
 // Whether the column is free.

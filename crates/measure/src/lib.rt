@@ -1,9 +1,7 @@
 // How wide the columns of a table are and how tall its rows, given what its cells ask.
 pub mod ask;
-mod axis;
 mod column;
 mod pass;
 mod span;
 pub mod table;
-pub mod track;
 mod width;

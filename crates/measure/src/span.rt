@@ -10,9 +10,9 @@ use share::part;
 
 // The sum of one of the bounds.
 pub(crate) fn sum_of(bound: Bound, cols: &[Column]) -> u32
-    requires { length cols.now ≤ 64 }
+    requires { length cols.now ≤ 32 }
     ensures value { result ≡ total (map (bound_of bound) cols.now) }
-    ensures small { result ≤ 65535 * 64 }
+    ensures small { result ≤ 65535 * 32 }
 {
     let mut sum: u32 = 0;
     for c in cols {
@@ -23,7 +23,7 @@ pub(crate) fn sum_of(bound: Bound, cols: &[Column]) -> u32
 
 // The sum of the weights.
 fn weigh_all(all: bool, cols: &[Column]) -> u32
-    requires { length cols.now ≤ 64 }
+    requires { length cols.now ≤ 32 }
     ensures { result ≡ total (map (weight all) cols.now) }
 {
     let mut sum: u32 = 0;
@@ -35,7 +35,7 @@ fn weigh_all(all: bool, cols: &[Column]) -> u32
 
 // Whether fixed columns share too: only in the leasts, and where no column is free.
 fn all_share(bound: Bound, cols: &[Column]) -> bool
-    requires { length cols.now ≤ 64 }
+    requires { length cols.now ≤ 32 }
     ensures { result ≡ all_share bound cols.now }
 {
     match bound {
@@ -46,7 +46,7 @@ fn all_share(bound: Bound, cols: &[Column]) -> bool
 
 // What a width asks of one of the bounds is shared over the columns, which are those of a whole span.
 pub(crate) fn meet_bound(bound: Bound, spacing: u8, wanted: u16, cols: &mut [Column])
-    requires { (0 < length cols.old) × (length cols.old ≤ 64) }
+    requires { (0 < length cols.old) × (length cols.old ≤ 32) }
     ensures { cols.new ≡ meet bound spacing (length cols.old) wanted cols.old }
 {
     let between = (cols.len() as u32 - 1) * spacing as u32;

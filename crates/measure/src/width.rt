@@ -1,9 +1,9 @@
 // The columns get their widths.
 ghost use Rattle.std.specs.Prelude.{◌≡◌, ◌+◌, ◌-◌, ◌≤◌, map, length};
 ghost use Rattle.share.specs.Share.{total, parts};
-ghost use Rattle.columns.specs.Columns.{leasts, spreads, sums, around, overflow_of};
+ghost use Rattle.columns.specs.Columns.{leasts, spreads, sums, overflow_of};
 ghost use Rattle.measure.specs.Bounds.{bound_of};
-ghost use Rattle.columns.specs.Tables.{as_wide, with_widths, given_of};
+ghost use Rattle.measure.specs.Widths.{as_wide, with_widths, given_of};
 
 use crate::column::{Bound, bound_of};
 use crate::span::sum_of;
@@ -67,22 +67,15 @@ fn widen_all(extra: u32, cols: &mut [Column])
     }
 }
 
-// The sum of one of the bounds, with the spacings around the columns.
-pub(crate) fn full_width(bound: Bound, spacing: u8, cols: &[Column]) -> u32
-    requires { length cols.now ≤ 32 }
-    ensures { result ≡ total (map (bound_of bound) cols.now) + around spacing cols.now }
-{
-    sum_of(bound, cols) + spacing as u32 * (cols.len() as u32 + 1)
-}
-
 // The columns get the widths that an offer gives; the answer is by how much it falls short of the least width.
 pub(crate) fn give(spacing: u8, offered: u32, cols: &mut [Column]) -> u32
     requires { length cols.old ≤ 32 }
     ensures widths { cols.new ≡ given_of spacing offered cols.old }
     ensures overflow { result ≡ overflow_of spacing cols.old offered }
 {
-    let least = full_width(Bound::Least, spacing, cols);
-    let greatest = full_width(Bound::Greatest, spacing, cols);
+    let around = spacing as u32 * (cols.len() as u32 + 1);
+    let least = sum_of(Bound::Least, cols) + around;
+    let greatest = sum_of(Bound::Greatest, cols) + around;
     if offered <= least {
         settle_all(Bound::Least, cols);
     } else if greatest <= offered {

@@ -14,16 +14,26 @@ use Rattle.plan.specs.Stock.{Stock, full}
 use Rattle.plan.specs.Steps.{Added, from_to, table_range, span_range, columns_of, current_row, start_tables, row_at, row_tables, width_at, width_tables, spot_to, column_for, sized, new_cell, with_row, with_sizing, with_cell, place_in, place_at, place_lists, nest_in, nest_at, nest_lists}
 use Rattle.plan.specs.Taken.{spot}
 use Rattle.plan.proofs.Spots.{spot_found}
-use Rattle.plan.specs.Cells.{free_in, by_cells}
+use Rattle.runs.specs.Cells.{free_in, by_cells}
 use Rattle.runs.specs.State.{State, empty}
-use Rattle.runs.specs.Calls.{Call, Start, Row, Place, Nest, Width, Layout, Box, Paint, Outcome, changed, added, wanted, after_of, next, run, Reached}
-use Rattle.plan.specs.Planned.{Able}
+use Rattle.runs.specs.Calls.{Call, Start, Row, Place, Nest, Width, Outcome, changed, added, wanted, after_of, next, run, Reached}
+use Rattle.runs.specs.Laws.{Able}
 use Rattle.runs.proofs.Lists.{nth_below, set_push}
-use Rattle.runs.proofs.Standing.{Standing, standing_table, Kept, standing_kept, Fitting, standing_cell}
-use Rattle.runs.proofs.Nested.{Nested, nested_first, nested_content, nested_inner}
-use Rattle.runs.proofs.Plans.{Good, Sound, sound_empty}
-use Rattle.runs.proofs.Remeasured.{remeasured}
-use Rattle.runs.proofs.Layouts.{same_plan, box_stays, paint_stays}
+use Rattle.runs.proofs.Standing.{Standing, standing_none, standing_table, Kept, standing_kept, Fitting, standing_cell}
+use Rattle.runs.proofs.Nested.{Nested, nested_none, nested_first, nested_content, nested_inner}
+
+-- of the items of the two lists
+pub record Good (ts : List Table) (cs : List Cell) : Type 0 where
+  pub few_tables : length ts ≤ 64
+  pub few_cells : length cs ≤ 1024
+  pub standing : Standing ts cs
+  pub nested : Nested (length ts) cs
+
+abbrev pub Sound : State → Type 0
+Sound s = Good s.tables.items s.cells.items
+
+pub sound_empty : (ts : List Table) (cs : List Cell) → Sound (empty ts cs)
+sound_empty ts cs = record { few_tables = omega arith; few_cells = omega arith; standing = standing_none; nested = nested_none }
 
 -- ---- what the tests tell
 
@@ -51,7 +61,7 @@ column_told free b across down j e =
 
 good_start : (s : State) (n q : ℕ) → Sound s → Sound (next s (Start n q))
 good_start s n q g =
-    let Held : Result (Stock Table) Fault → Type 0 = λ z. Sound (after_of s (Start n q) (changed s s.laid z)) in
+    let Held : Result (Stock Table) Fault → Type 0 = λ z. Sound (after_of s (changed s s.laid z)) in
     cond_both (table_range n q) _ _ Held
     (λ range. cond_both (eqb (length s.tables.items) 0) _ _ Held
     (λ none. cond_both (full 64 s.tables) _ _ Held (λ _. g) (λ room.
@@ -76,33 +86,35 @@ good_kept ts cs t b d e k g = record {
   nested = subst (λ m. Nested m cs) (sym (length-set ts t d)) g.nested;
 }
 
-good_row : (s : State) (t : ℕ) (o : Option Table) → slice_get s.tables.items t ≡ o → Sound s → Sound (after_of s (Row t) (changed s false (row_at s.tables t o)))
+good_row : (s : State) (t : ℕ) (o : Option Table) → slice_get s.tables.items t ≡ o → Sound s → Sound (after_of s (changed s false (row_at s.tables t o)))
 good_row s t None e g = g
 good_row s t (Some b) e g =
-    cond_both (ltb b.begun 64) _ _ (λ z. Sound (after_of s (Row t) (changed s false z)))
+    cond_both (ltb b.begun 64) _ _ (λ z. Sound (after_of s (changed s false z)))
     (λ h.
     let a = g.standing.able t b e in
     good_kept s.tables.items s.cells.items t b (with_row b) e
     (record {
-      able = record { some = a.some; few = a.few; narrow = a.narrow; in_rows = omega arith; rows = omega (arith, a.rows, ltb-true b.begun 64 h); columns_there = a.columns_there; rows_there = a.rows_there };
+      able = record { some = a.some; few = a.few; narrow = a.narrow; in_rows = omega arith; rows = omega (arith, a.rows, ltb-true b.begun 64 h) };
       count_is = refl;
       taken_is = refl;
+      columns_are = refl;
       begun_up = omega arith;
       reached_up = omega arith;
     }) g)
     (λ _. g)
 
-good_width : (s : State) (t j f : ℕ) (o : Option Table) → slice_get s.tables.items t ≡ o → Sound s → Sound (after_of s (Width t j f) (changed s false (width_at s.tables t j f o)))
+good_width : (s : State) (t j f : ℕ) (o : Option Table) → slice_get s.tables.items t ≡ o → Sound s → Sound (after_of s (changed s false (width_at s.tables t j f o)))
 good_width s t j f None e g = g
 good_width s t j f (Some b) e g =
-    cond_both (ltb j (columns_of b)) _ _ (λ z. Sound (after_of s (Width t j f) (changed s false z)))
+    cond_both (ltb j (columns_of b)) _ _ (λ z. Sound (after_of s (changed s false z)))
     (λ _.
     let a = g.standing.able t b e in
     good_kept s.tables.items s.cells.items t b (with_sizing b j f) e
     (record {
-      able = record { some = a.some; few = a.few; narrow = a.narrow; in_rows = a.in_rows; rows = a.rows; columns_there = length-set b.columns j (sized (get_or b.columns j blank_column) f) ∙ a.columns_there; rows_there = a.rows_there };
+      able = record { some = a.some; few = a.few; narrow = a.narrow; in_rows = a.in_rows; rows = a.rows };
       count_is = refl;
       taken_is = refl;
+      columns_are = length-set b.columns j (sized (get_or b.columns j blank_column) f);
       begun_up = omega arith;
       reached_up = omega arith;
     }) g)
@@ -118,9 +130,9 @@ module _ (s : State) (t across down : ℕ) (range : span_range across down ≡ t
       let r = span_ranges across down range in
       record { some = p.0; wide = r.0; tall = r.1; within = f.within; low = p.2; clear_is = f.clear_is; lowest_is = f.lowest_is }
 
-  pub good_place : (content : ℕ) → Sound s → Sound (after_of s (Place t content across down) (added (place_in (by_cells s.cells.items) s.tables s.cells t across down content b (Ok j))))
+  pub good_place : (content : ℕ) → Sound s → Sound (after_of s (added (place_in (by_cells s.cells.items) s.tables s.cells t across down content b (Ok j))))
   good_place content g =
-      cond_both (full 1024 s.cells) _ _ (λ z. Sound (after_of s (Place t content across down) (added z))) (λ _. g)
+      cond_both (full 1024 s.cells) _ _ (λ z. Sound (after_of s (added z))) (λ _. g)
       (λ room.
       let c : Cell = new_cell t b j across down (Content content) in
       let d : Table = with_cell b j across down in
@@ -131,9 +143,9 @@ module _ (s : State) (t across down : ℕ) (range : span_range across down ≡ t
         nested = subst (λ m. Nested m (s.cells.items ++ c ∷ [])) (sym (length-set s.tables.items t d)) (nested_content (length s.tables.items) s.cells.items c content refl g.nested);
       })
 
-  pub good_nest : (n q : ℕ) → table_range n q ≡ true → Sound s → Sound (after_of s (Nest t across down n q) (added (nest_in (by_cells s.cells.items) s.tables s.cells t across down n q b (Ok j))))
+  pub good_nest : (n q : ℕ) → table_range n q ≡ true → Sound s → Sound (after_of s (added (nest_in (by_cells s.cells.items) s.tables s.cells t across down n q b (Ok j))))
   good_nest n q shape g =
-      cond_both (full 1024 s.cells || full 64 s.tables) _ _ (λ z. Sound (after_of s (Nest t across down n q) (added z))) (λ _. g)
+      cond_both (full 1024 s.cells || full 64 s.tables) _ _ (λ z. Sound (after_of s (added z))) (λ _. g)
       (λ room.
       let m : ℕ = length s.tables.items in
       let c : Cell = new_cell t b j across down (Inner m) in
@@ -152,20 +164,20 @@ module _ (s : State) (t across down : ℕ) (range : span_range across down ≡ t
   abbrev free : ℕ → Table → ℕ → Bool
   free = by_cells s.cells.items
 
-  good_place_in : (content : ℕ) (b : Table) → slice_get s.tables.items t ≡ Some b → (r : Result ℕ Fault) → column_for (free t b) b across down ≡ r → Sound (after_of s (Place t content across down) (added (place_in free s.tables s.cells t across down content b r)))
+  good_place_in : (content : ℕ) (b : Table) → slice_get s.tables.items t ≡ Some b → (r : Result ℕ Fault) → column_for (free t b) b across down ≡ r → Sound (after_of s (added (place_in free s.tables s.cells t across down content b r)))
   good_place_in content b e (Ok j) told = good_place s t across down range b e j told content g
   good_place_in content b e (Err f) told = g
 
-  good_place_at : (content : ℕ) (o : Option Table) → slice_get s.tables.items t ≡ o → Sound (after_of s (Place t content across down) (added (place_at free s.tables s.cells t across down content o)))
+  good_place_at : (content : ℕ) (o : Option Table) → slice_get s.tables.items t ≡ o → Sound (after_of s (added (place_at free s.tables s.cells t across down content o)))
   good_place_at content None e = g
   good_place_at content (Some b) e = good_place_in content b e (column_for (free t b) b across down) refl
 
   module _ (n q : ℕ) (shape : table_range n q ≡ true) where
-    good_nest_in : (b : Table) → slice_get s.tables.items t ≡ Some b → (r : Result ℕ Fault) → column_for (free t b) b across down ≡ r → Sound (after_of s (Nest t across down n q) (added (nest_in free s.tables s.cells t across down n q b r)))
+    good_nest_in : (b : Table) → slice_get s.tables.items t ≡ Some b → (r : Result ℕ Fault) → column_for (free t b) b across down ≡ r → Sound (after_of s (added (nest_in free s.tables s.cells t across down n q b r)))
     good_nest_in b e (Ok j) told = good_nest s t across down range b e j told n q shape g
     good_nest_in b e (Err f) told = g
 
-    good_nest_at : (o : Option Table) → slice_get s.tables.items t ≡ o → Sound (after_of s (Nest t across down n q) (added (nest_at free s.tables s.cells t across down n q o)))
+    good_nest_at : (o : Option Table) → slice_get s.tables.items t ≡ o → Sound (after_of s (added (nest_at free s.tables s.cells t across down n q o)))
     good_nest_at None e = g
     good_nest_at (Some b) e = good_nest_in b e (column_for (free t b) b across down) refl
 
@@ -175,22 +187,17 @@ pub sound_next : (s : State) (c : Call) → Sound s → Sound (next s c)
 sound_next s (Start n q) g = good_start s n q g
 sound_next s (Row t) g = good_row s t (slice_get s.tables.items t) refl g
 sound_next s (Place t content across down) g =
-    cond_both (span_range across down) _ _ (λ z. Sound (after_of s (Place t content across down) (added z)))
+    cond_both (span_range across down) _ _ (λ z. Sound (after_of s (added z)))
     (λ range. good_place_at s t across down range g content (slice_get s.tables.items t) refl)
     (λ _. g)
 sound_next s (Nest t across down n q) g =
-    cond_both (span_range across down && table_range n q) _ _ (λ z. Sound (after_of s (Nest t across down n q) (added z)))
+    cond_both (span_range across down && table_range n q) _ _ (λ z. Sound (after_of s (added z)))
     (λ e. let p = and_parts (span_range across down) (table_range n q) e in good_nest_at s t across down p.0 g n q p.1 (slice_get s.tables.items t) refl)
     (λ _. g)
 sound_next s (Width t j f) g =
-    cond_both (leb f 1000) _ _ (λ z. Sound (after_of s (Width t j f) (changed s false z)))
+    cond_both (leb f 1000) _ _ (λ z. Sound (after_of s (changed s false z)))
     (λ _. good_width s t j f (slice_get s.tables.items t) refl g)
     (λ _. g)
-sound_next s (Layout m offer) g =
-    let p = same_plan s m offer g in
-    remeasured s.tables.items (next s (Layout m offer)).tables.items s.cells.items (next s (Layout m offer)).cells.items p.tables_same p.cells_same g
-sound_next s (Box cell) g = subst Sound (sym (box_stays s cell)) g
-sound_next s (Paint m first count slice) g = subst Sound (sym (paint_stays s m first count slice)) g
 
 pub sound_run : (s : State) (cs : List Call) → Sound s → Sound (run s cs)
 sound_run s [] g = g

@@ -8,16 +8,11 @@ use Rattle.plan.specs.declared.record.Table.{Table}
 use Rattle.plan.specs.Blank.{blank_table}
 use Rattle.plan.specs.Stock.{Stock, with_new, with_item}
 use Rattle.plan.specs.Steps.{Added, start_tables, row_tables, width_tables, place_lists, nest_lists, new_cell, with_row, with_sizing, with_cell}
-use Rattle.plan.specs.Cells.{by_cells}
+use Rattle.runs.specs.Cells.{by_cells}
 use Rattle.runs.specs.State.{State}
-use Rattle.runs.specs.Calls.{Call, Start, Row, Place, Nest, Width, Layout, Box, Paint, Outcome, changed, added, wanted, after_of, next, run}
+use Rattle.runs.specs.Calls.{Call, Start, Row, Place, Nest, Width, Outcome, changed, added, wanted, after_of, next, run}
 use Rattle.runs.proofs.Lists.{nth_same, nth_old, nth_set_same, nth_set_other}
 use Rattle.runs.proofs.Accepted.{start_told, row_told, width_told, place_told, nest_told}
-use Rattle.laid.specs.Layout.{clear_table, clear_cell}
-use Rattle.laid.proofs.Twins.{twin}
-use Rattle.runs.proofs.Plans.{Sound}
-use Rattle.runs.proofs.Layouts.{SamePlan, same_plan, box_stays, paint_stays}
-use Rattle.runs.proofs.Good.{sound_next}
 
 -- the cell stands in the same place, and holds the same
 pub record Alike (c d : Cell) : Type 0 where
@@ -96,18 +91,18 @@ module _ (s : State) (laid : Bool) where
   grows_tables : ((ts : Stock Table) → Like Shape s.tables.items ts.items → Grows s (record { tables = ts; cells = s.cells; laid = laid }))
   grows_tables ts h = record { cells = like_same Alike alike_same s.cells.items; tables = h }
 
-  grows_start : (n q : ℕ) (r : Result (Stock Table) Fault) → start_tables s.tables n q ≡ r → Grows s (after_of s (Start n q) (changed s laid r))
+  grows_start : (n q : ℕ) (r : Result (Stock Table) Fault) → start_tables s.tables n q ≡ r → Grows s (after_of s (changed s laid r))
   grows_start n q (Err f) e = grows_same s
   grows_start n q (Ok ts) e =
       grows_tables ts (subst (λ (x : Stock Table). Like Shape s.tables.items x.items) (sym (start_told s.tables ts n q e)) (like_push Shape shape_same s.tables.items (blank_table n q)))
 
-  grows_row : (t : ℕ) (r : Result (Stock Table) Fault) → row_tables s.tables t ≡ r → Grows s (after_of s (Row t) (changed s laid r))
+  grows_row : (t : ℕ) (r : Result (Stock Table) Fault) → row_tables s.tables t ≡ r → Grows s (after_of s (changed s laid r))
   grows_row t (Err f) e = grows_same s
   grows_row t (Ok ts) e =
       let p = row_told s.tables ts t e in
       grows_tables ts (subst (λ (x : Stock Table). Like Shape s.tables.items x.items) (sym p.1.is) (like_set Shape shape_same s.tables.items t p.0 (with_row p.0) p.1.there (record { count_is = refl; spacing_is = refl })))
 
-  grows_width : (t j f : ℕ) (r : Result (Stock Table) Fault) → width_tables s.tables t j f ≡ r → Grows s (after_of s (Width t j f) (changed s laid r))
+  grows_width : (t j f : ℕ) (r : Result (Stock Table) Fault) → width_tables s.tables t j f ≡ r → Grows s (after_of s (changed s laid r))
   grows_width t j f (Err g) e = grows_same s
   grows_width t j f (Ok ts) e =
       let p = width_told s.tables ts t j f e in
@@ -121,7 +116,7 @@ module _ (s : State) (t across down : ℕ) where
   cell_like : (b : Table) (j : ℕ) → slice_get s.tables.items t ≡ Some b → Like Shape s.tables.items (set s.tables.items t (with_cell b j across down))
   cell_like b j e = like_set Shape shape_same s.tables.items t b (with_cell b j across down) e (record { count_is = refl; spacing_is = refl })
 
-  grows_place : (content : ℕ) (r : Result Added Fault) → place_lists free s.tables s.cells t across down content ≡ r → Grows s (after_of s (Place t content across down) (added r))
+  grows_place : (content : ℕ) (r : Result Added Fault) → place_lists free s.tables s.cells t across down content ≡ r → Grows s (after_of s (added r))
   grows_place content (Err f) e = grows_same s
   grows_place content (Ok a) e =
       let p = place_told free s.tables s.cells t across down a content e in
@@ -130,7 +125,7 @@ module _ (s : State) (t across down : ℕ) where
         tables = subst (λ (x : Stock Table). Like Shape s.tables.items x.items) (sym p.tables_are) (cell_like p.adds.table p.adds.column p.adds.there);
       }
 
-  grows_nest : (n q : ℕ) (r : Result Added Fault) → nest_lists free s.tables s.cells t across down n q ≡ r → Grows s (after_of s (Nest t across down n q) (added r))
+  grows_nest : (n q : ℕ) (r : Result Added Fault) → nest_lists free s.tables s.cells t across down n q ≡ r → Grows s (after_of s (added r))
   grows_nest n q (Err f) e = grows_same s
   grows_nest n q (Ok a) e =
       let p = nest_told free s.tables s.cells t across down a n q e in
@@ -140,40 +135,13 @@ module _ (s : State) (t across down : ℕ) where
         tables = subst (λ (x : Stock Table). Like Shape s.tables.items x.items) (sym p.tables_are) (like_then Shape shape_then s.tables.items (set s.tables.items t d) (set s.tables.items t d ++ blank_table n q ∷ []) (cell_like p.adds.table p.adds.column p.adds.there) (like_push Shape shape_same (set s.tables.items t d) (blank_table n q)));
       }
 
--- measures alone change
-grows_measured : (s m : State) → SamePlan s m → Grows s m
-grows_measured s m p = record {
-  cells = λ i c e.
-      let w = twin clear_cell s.cells.items m.cells.items (sym p.cells_same) i c e in
-      let q = sym w.2 in (
-        w.0,
-        (
-          w.1,
-          record {
-            table_is = ap (λ (z : Cell). z.table) q;
-            row_is = ap (λ (z : Cell). z.row) q;
-            column_is = ap (λ (z : Cell). z.column) q;
-            across_is = ap (λ (z : Cell). z.across) q;
-            down_is = ap (λ (z : Cell). z.down) q;
-            holds_is = ap (λ (z : Cell). z.holds) q;
-          },
-        ),
-      );
-  tables = λ t b e.
-      let w = twin clear_table s.tables.items m.tables.items (sym p.tables_same) t b e in
-      (w.0, (w.1, record { count_is = ap (λ (z : Table). z.count) (sym w.2); spacing_is = ap (λ (z : Table). z.spacing) (sym w.2) }));
-}
+pub grows_next : (s : State) (c : Call) → Grows s (next s c)
+grows_next s (Start n q) = grows_start s s.laid n q (start_tables s.tables n q) refl
+grows_next s (Row t) = grows_row s false t (row_tables s.tables t) refl
+grows_next s (Place t content across down) = grows_place s t across down content (place_lists (by_cells s.cells.items) s.tables s.cells t across down content) refl
+grows_next s (Nest t across down n q) = grows_nest s t across down n q (nest_lists (by_cells s.cells.items) s.tables s.cells t across down n q) refl
+grows_next s (Width t j f) = grows_width s false t j f (width_tables s.tables t j f) refl
 
-pub grows_next : (s : State) (c : Call) → Sound s → Grows s (next s c)
-grows_next s (Start n q) g = grows_start s s.laid n q (start_tables s.tables n q) refl
-grows_next s (Row t) g = grows_row s false t (row_tables s.tables t) refl
-grows_next s (Place t content across down) g = grows_place s t across down content (place_lists (by_cells s.cells.items) s.tables s.cells t across down content) refl
-grows_next s (Nest t across down n q) g = grows_nest s t across down n q (nest_lists (by_cells s.cells.items) s.tables s.cells t across down n q) refl
-grows_next s (Width t j f) g = grows_width s false t j f (width_tables s.tables t j f) refl
-grows_next s (Layout m offer) g = grows_measured s (next s (Layout m offer)) (same_plan s m offer g)
-grows_next s (Box cell) g = subst (Grows s) (sym (box_stays s cell)) (grows_same s)
-grows_next s (Paint m first count slice) g = subst (Grows s) (sym (paint_stays s m first count slice)) (grows_same s)
-
-pub grows_run : (s : State) (cs : List Call) → Sound s → Grows s (run s cs)
-grows_run s [] g = grows_same s
-grows_run s (c ∷ cs) g = grows_then s (next s c) (run (next s c) cs) (grows_next s c g) (grows_run (next s c) cs (sound_next s c g))
+pub grows_run : (s : State) (cs : List Call) → Grows s (run s cs)
+grows_run s [] = grows_same s
+grows_run s (c ∷ cs) = grows_then s (next s c) (run (next s c) cs) (grows_next s c) (grows_run (next s c) cs)

@@ -10,19 +10,17 @@ use Rattle.plan.specs.declared.record.Table.{Table}
 use Rattle.plan.specs.Blank.{blank_table}
 use Rattle.plan.specs.Stock.{Stock, with_new, with_item}
 use Rattle.plan.specs.Steps.{Added, place_lists, nest_lists, new_cell}
-use Rattle.plan.specs.Cells.{by_cells}
+use Rattle.runs.specs.Cells.{by_cells}
 use Rattle.runs.specs.State.{State}
-use Rattle.runs.specs.Calls.{Call, Place, Nest, Answer, Done, Number, Page, At, Bytes, Outcome, added, wanted, after_of, next, run}
+use Rattle.runs.specs.Calls.{Call, Place, Nest, Answer, Done, Number, Outcome, added, wanted, after_of, next, run}
 use Rattle.runs.specs.History.{Stands, Shaped, Hangs, Told}
+use Rattle.runs.proofs.Planned.{planned}
 use Rattle.runs.proofs.Sized.{sized_run}
 use Rattle.runs.proofs.Lists.{nth_same, nth_last}
 use Rattle.runs.proofs.Accepted.{ok_same, Adds, place_told, nest_told}
-use Rattle.runs.proofs.Plans.{Sound, planned}
-use Rattle.runs.proofs.Good.{sound_next, sound_run}
+use Rattle.runs.proofs.Good.{Sound, sound_run}
 use Rattle.runs.proofs.Nested.{Nested}
 use Rattle.runs.proofs.Grows.{Alike, Shape, Like, Grows, grows_run}
-use Rattle.std.proofs.lemmas.Bool.{true≢false}
-use Rattle.runs.proofs.Lasting.{laid_run}
 
 run_append : (s : State) (before after : List Call) (c : Call) → run s (before ++ c ∷ after) ≡ run (next (run s before) c) after
 run_append s [] after c = refl
@@ -31,12 +29,9 @@ run_append s (d ∷ before) after c = run_append (next s d) before after c
 abbrev number_in : Answer → ℕ
 number_in Done = 0
 number_in (Number i) = i
-number_in (Page z) = 0
-number_in (At r) = 0
-number_in (Bytes bs) = 0
 
 -- what an answer of a call that adds a cell tells
-pub added_told : (r : Result Added Fault) (i : ℕ) (m : State) → added r ≡ Ok (record { answer = Number i; after = m }) → (a : Added) × ((r ≡ Ok a) × (a.answer ≡ i) × (a.cells ≡ m.cells) × (a.tables ≡ m.tables))
+added_told : (r : Result Added Fault) (i : ℕ) (m : State) → added r ≡ Ok (record { answer = Number i; after = m }) → (a : Added) × ((r ≡ Ok a) × (a.answer ≡ i) × (a.cells ≡ m.cells) × (a.tables ≡ m.tables))
 added_told (Err f) i m e = let z : ◌≡◌ {A = ℕ} 0 1 = cc in absurd (omega arith)
 added_told (Ok a) i m e =
     let p = ok_same _ _ e in
@@ -81,21 +76,20 @@ module _ (s : State) (before after : List Call) where
   then = run s before
 
   -- after the call c that was accepted, everything grows
-  grown_from : (c : Call) (o : Outcome) → wanted then c ≡ Ok o → Sound s → Grows o.after (run s (before ++ c ∷ after))
-  grown_from c o e g =
-      let there : next then c ≡ o.after = ap (after_of then c) e in
-      let sound = subst Sound there (sound_next then c (sound_run s before g)) in
-      subst (Grows o.after) (sym (run_append s before after c ∙ ap (λ z. run z after) there)) (grows_run o.after after sound)
+  grown_from : (c : Call) (o : Outcome) → wanted then c ≡ Ok o → Grows o.after (run s (before ++ c ∷ after))
+  grown_from c o e =
+      let there : next then c ≡ o.after = ap (after_of then) e in
+      subst (Grows o.after) (sym (run_append s before after c ∙ ap (λ z. run z after) there)) (grows_run o.after after)
 
-  pub placed_told : (t content across down i : ℕ) (m : State) → wanted then (Place t content across down) ≡ Ok (record { answer = Number i; after = m }) → Sound s → Stands (run s (before ++ Place t content across down ∷ after)) i t across down (Content content)
-  placed_told t content across down i m e g =
+  pub placed_told : (t content across down i : ℕ) (m : State) → wanted then (Place t content across down) ≡ Ok (record { answer = Number i; after = m }) → Stands (run s (before ++ Place t content across down ∷ after)) i t across down (Content content)
+  placed_told t content across down i m e =
       let free = by_cells then.cells.items in
       let a = added_told (place_lists free then.tables then.cells t across down content) i m e in
       let p = place_told free then.tables then.cells t across down a.0 content a.1.0 in
       let c : Cell = new_cell t p.adds.table p.adds.column across down (Content content) in
       let there = new_there then.cells m.cells c (sym a.1.2 ∙ p.adds.cells_are) in
       let same : length then.cells.items ≡ i = sym p.answer_is ∙ a.1.1 in
-      stands_later m (run s (before ++ Place t content across down ∷ after)) i t across down (Content content) c (ap (slice_get m.cells.items) (sym same) ∙ there) refl refl refl refl (grown_from (Place t content across down) (record { answer = Number i; after = m }) e g)
+      stands_later m (run s (before ++ Place t content across down ∷ after)) i t across down (Content content) c (ap (slice_get m.cells.items) (sym same) ∙ there) refl refl refl refl (grown_from (Place t content across down) (record { answer = Number i; after = m }) e)
 
   pub nested_told : (t across down n q i : ℕ) (m : State) → wanted then (Nest t across down n q) ≡ Ok (record { answer = Number i; after = m }) → Sound s → Shaped (run s (before ++ Nest t across down n q ∷ after)) i n q × Hangs (run s (before ++ Nest t across down n q ∷ after)) i t across down
   nested_told t across down n q i m e g =
@@ -106,7 +100,7 @@ module _ (s : State) (before after : List Call) where
       let c : Cell = new_cell t p.adds.table p.adds.column across down (Inner (length then.tables.items)) in
       let there = new_there then.cells m.cells c (sym a.1.2 ∙ p.adds.cells_are) in
       let same : length then.tables.items ≡ i = sym p.answer_is ∙ a.1.1 in
-      let grows = grown_from (Nest t across down n q) (record { answer = Number i; after = m }) e g in
+      let grows = grown_from (Nest t across down n q) (record { answer = Number i; after = m }) e in
       let stands = stands_later m last (length then.cells.items) t across down (Inner i) c there refl refl refl (ap Inner same) grows in
       let sound = sound_run s (before ++ Nest t across down n q ∷ after) g in
       let like = grows.cells (length then.cells.items) c there in
@@ -121,9 +115,8 @@ module _ (s : State) (before after : List Call) where
 -- all of it, from any sound state
 pub told : (s : State) (calls : List Call) → Sound s → Told s calls
 told s calls g = record {
-  planned = planned (run s calls).tables.items (run s calls).cells.items (sound_run s calls g);
-  placed = λ before after t content across down i m is e. subst (λ cs. Stands (run s cs) i t across down (Content content)) (sym is) (placed_told s before after t content across down i m e g);
+  planned = planned (run s calls) (sound_run s calls g);
+  placed = λ before after t content across down i m is e. subst (λ cs. Stands (run s cs) i t across down (Content content)) (sym is) (placed_told s before after t content across down i m e);
   nested = λ before after t across down n q i m is e. subst (λ cs. Shaped (run s cs) i n q × Hangs (run s cs) i t across down) (sym is) (nested_told s before after t across down n q i m e g);
   sized = λ t j. sized_run s calls t j g;
-  laid = λ unlaid. laid_run s calls None g (λ l. absurd (true≢false (sym l ∙ unlaid)));
 }

@@ -2,14 +2,10 @@ pub mod Lists
 pub mod Free
 pub mod Standing
 pub mod Nested
-pub mod Plans
-pub mod Remeasured
-pub mod Layouts
 pub mod Good
 pub mod Accepted
 pub mod Grows
 pub mod Planned
-pub mod Lasting
 pub mod History
 pub mod Sized
 pub mod Same

@@ -10,15 +10,34 @@ use Rattle.plan.specs.declared.record.Table.{Table}
 use Rattle.plan.specs.declared.record.Holds.TheVariants.{Inner}
 use Rattle.runs.specs.State.{State, empty}
 use Rattle.runs.specs.Calls.{Call, Outcome, wanted, after_of, next, run, Reached}
-use Rattle.plan.specs.Planned.{Apart, CameLowest, Within, Able, Held}
-use Rattle.runs.specs.Laws.{Planned}
-use Rattle.runs.proofs.Plans.{planned}
-use Rattle.runs.proofs.Good.{sound_reached}
+use Rattle.runs.specs.Laws.{Apart, CameLowest, Within, Able, Held, Planned}
+use Rattle.runs.proofs.Standing.{standing_apart}
+use Rattle.runs.proofs.Good.{Good, Sound, sound_reached}
+
+pub planned : (s : State) → Sound s → Planned s
+planned s g = record {
+  few_tables = g.few_tables;
+  few_cells = g.few_cells;
+  able = g.standing.able;
+  known = g.standing.known;
+  within = g.standing.within;
+  apart = standing_apart s.tables.items s.cells.items g.standing;
+  lowest = g.standing.lowest;
+  held = λ n p q.
+      let h = g.nested.held n p q in
+      record {
+        some = ∣ (h.number, (h.cell, (h.there, h.holds))) ∣₁;
+        once = λ i k a b e f u v. g.nested.once i k n a b e f u v;
+        below = λ k c e f. (g.nested.holds k n c e f).0;
+      };
+  holds = λ k n c e f. let h = g.nested.holds k n c e f in (omega (arith, h.0), h.1);
+  later = g.nested.later;
+}
 
 -- of every state that some run reached
 pub planned_reached : (s : State) → ∥ Reached s ∥₁ → Planned s
 planned_reached s t =
-    let of : Reached s → Planned s = λ r. planned s.tables.items s.cells.items (sound_reached s r) in
+    let of : Reached s → Planned s = λ r. planned s (sound_reached s r) in
     record {
       few_tables = ∥∥₁_elim t (hlevel props) (λ r. (of r).few_tables);
       few_cells = ∥∥₁_elim t (hlevel props) (λ r. (of r).few_cells);
@@ -28,8 +47,6 @@ planned_reached s t =
         narrow = ∥∥₁_elim t (hlevel props) (λ r. ((of r).able k b e).narrow);
         in_rows = ∥∥₁_elim t (hlevel props) (λ r. ((of r).able k b e).in_rows);
         rows = ∥∥₁_elim t (hlevel props) (λ r. ((of r).able k b e).rows);
-        columns_there = ∥∥₁_elim t (hlevel props) (λ r. ((of r).able k b e).columns_there);
-        rows_there = ∥∥₁_elim t (hlevel props) (λ r. ((of r).able k b e).rows_there);
       };
       known = λ k c e. ∥∥₁_elim t (hlevel props) (λ r. (of r).known k c e);
       within = λ k c b e f. record {
@@ -68,7 +85,7 @@ reached_next s c t = ∥∥₁_map t (λ r. record {
 
 -- an accepted call reaches what it leaves
 pub reached_by : (s m : State) (c : Call) (o : Outcome) → wanted s c ≡ Ok o → o.after ≡ m → ∥ Reached s ∥₁ → ∥ Reached m ∥₁
-reached_by s m c o e is t = subst (λ z. ∥ Reached z ∥₁) (ap (after_of s c) e ∙ is) (reached_next s c t)
+reached_by s m c o e is t = subst (λ z. ∥ Reached z ∥₁) (ap (after_of s) e ∙ is) (reached_next s c t)
 
 pub reached_empty : (ts : List Table) (cs : List Cell) → ∥ Reached (empty ts cs) ∥₁
 reached_empty ts cs = ∣ record { table_places = ts; cell_places = cs; calls = []; is = refl } ∣₁

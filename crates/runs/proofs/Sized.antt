@@ -1,5 +1,5 @@
 -- Columns are as last set.
-use Rattle.std.proofs.Common.{◌≡◌, ℕ, zero, suc, ◌<◌, Bool, true, false, cond, ◌&&◌, eqb, ◌⊎◌, List, [], ◌∷◌, ◌++◌, map, length, get_or, set, replicate, is_ok, Some, None, Ok, Err, Option, Result, sym, refl, ap, ◌∙◌, subst, inl, inr, arith, get_or-set_other, get_or-set_same}
+use Rattle.std.proofs.Common.{◌≡◌, ℕ, zero, suc, ◌<◌, Bool, true, false, cond, ◌&&◌, eqb, ◌⊎◌, List, [], ◌∷◌, ◌++◌, length, get_or, set, replicate, is_ok, Some, None, Ok, Err, Result, sym, refl, ap, ◌∙◌, subst, inl, inr, arith, get_or-set_other, get_or-set_same}
 use Rattle.std.specs.List.{slice_get}
 use Rattle.std.proofs.lemmas.Bool.{cases_eq, eq-eqb, ne_eqb}
 use Rattle.fault.specs.declared.Fault.{Fault}
@@ -9,18 +9,13 @@ use Rattle.plan.specs.declared.record.Table.{Table}
 use Rattle.plan.specs.Blank.{blank_column, blank_table}
 use Rattle.plan.specs.Stock.{Stock, with_new, with_item}
 use Rattle.plan.specs.Steps.{Added, start_tables, row_tables, width_tables, place_lists, nest_lists, sizing_of, sized, with_row, with_sizing, with_cell}
-use Rattle.plan.specs.Cells.{by_cells}
+use Rattle.runs.specs.Cells.{by_cells}
 use Rattle.runs.specs.State.{State}
-use Rattle.runs.specs.Calls.{Call, Start, Row, Place, Nest, Width, Layout, Box, Paint, changed, added, wanted, after_of, next, run}
+use Rattle.runs.specs.Calls.{Call, Start, Row, Place, Nest, Width, changed, added, wanted, after_of, next, run}
 use Rattle.runs.specs.History.{sizing_in, sizing_at, set_by, last_set}
 use Rattle.runs.proofs.Lists.{nth_set_same, nth_set_other}
 use Rattle.runs.proofs.Accepted.{start_told, row_told, width_told, place_told, nest_told}
-use Rattle.runs.proofs.Plans.{Sound}
-use Rattle.runs.proofs.Good.{sound_next}
-use Rattle.std.specs.Option.{option_map}
-use Rattle.laid.specs.Layout.{clear_column, clear_table}
-use Rattle.laid.specs.Laws.{SameTables}
-use Rattle.runs.proofs.Layouts.{same_plan, box_stays, paint_stays}
+use Rattle.runs.proofs.Good.{Sound, sound_next}
 
 all_same : {A : Type 0} (n : ℕ) (x : A) (j : ℕ) → get_or (replicate n x) j x ≡ x
 all_same zero x j = refl
@@ -69,60 +64,40 @@ sizing_width xs u i f b t j there h =
           ap (λ x. cond (x && eqb i j) (sizing_of f) (sizing_in (slice_get xs t) j)) (sym (ne_eqb u t (λ z. e (sym z))))
     ]
 
--- tables that differ in their measures alone
-sizing_clear : (o : Option Table) (j : ℕ) → sizing_in (option_map clear_table o) j ≡ sizing_in o j
-sizing_clear None j = refl
-sizing_clear (Some b) j = at b.columns j
-  where
-    at : (cs : List Column) (i : ℕ) → (get_or (map clear_column cs) i blank_column).sizing ≡ (get_or cs i blank_column).sizing
-    at [] i = refl
-    at (c ∷ cs) zero = refl
-    at (c ∷ cs) (suc i) = at cs i
-
-nth_mapped : {A B : Type 0} (f : A → B) (xs : List A) (i : ℕ) → slice_get (map f xs) i ≡ option_map f (slice_get xs i)
-nth_mapped f [] i = refl
-nth_mapped f (x ∷ xs) zero = refl
-nth_mapped f (x ∷ xs) (suc i) = nth_mapped f xs i
-
-sizing_same : (ts us : List Table) → SameTables us ts → (t j : ℕ) → sizing_in (slice_get us t) j ≡ sizing_in (slice_get ts t) j
-sizing_same ts us p t j =
-    sym (sizing_clear (slice_get us t) j)
-    ∙ (ap (λ o. sizing_in o j) (sym (nth_mapped clear_table us t) ∙ (ap (λ xs. slice_get xs t) p ∙ nth_mapped clear_table ts t)) ∙ sizing_clear (slice_get ts t) j)
-
 module _ (s : State) (g : Sound s) (t j : ℕ) where
   -- the sizing in tables that are told
   to_tables : (x y : Stock Table) → x ≡ y → sizing_in (slice_get x.items t) j ≡ sizing_in (slice_get y.items t) j
   to_tables x y e = ap (λ (z : Stock Table). sizing_in (slice_get z.items t) j) e
 
-  size_start : (n q : ℕ) (r : Result (Stock Table) Fault) → start_tables s.tables n q ≡ r → sizing_at (after_of s (Start n q) (changed s s.laid r)) t j ≡ sizing_at s t j
+  size_start : (n q : ℕ) (r : Result (Stock Table) Fault) → start_tables s.tables n q ≡ r → sizing_at (after_of s (changed s s.laid r)) t j ≡ sizing_at s t j
   size_start n q (Err f) e = refl
   size_start n q (Ok ts) e = to_tables ts (with_new s.tables (blank_table n q)) (start_told s.tables ts n q e) ∙ sizing_push s.tables.items n q t j
 
-  size_row : (u : ℕ) (r : Result (Stock Table) Fault) → row_tables s.tables u ≡ r → sizing_at (after_of s (Row u) (changed s false r)) t j ≡ sizing_at s t j
+  size_row : (u : ℕ) (r : Result (Stock Table) Fault) → row_tables s.tables u ≡ r → sizing_at (after_of s (changed s false r)) t j ≡ sizing_at s t j
   size_row u (Err f) e = refl
   size_row u (Ok ts) e =
       let p = row_told s.tables ts u e in
       to_tables ts (with_item s.tables u (with_row p.0)) p.1.is ∙ sizing_set s.tables.items u p.0 (with_row p.0) t j p.1.there refl
 
-  size_width : (u i f : ℕ) (r : Result (Stock Table) Fault) → width_tables s.tables u i f ≡ r → sizing_at (after_of s (Width u i f) (changed s false r)) t j ≡ cond (is_ok (changed s false r) && (eqb u t && eqb i j)) (sizing_of f) (sizing_at s t j)
+  size_width : (u i f : ℕ) (r : Result (Stock Table) Fault) → width_tables s.tables u i f ≡ r → sizing_at (after_of s (changed s false r)) t j ≡ cond (is_ok (changed s false r) && (eqb u t && eqb i j)) (sizing_of f) (sizing_at s t j)
   size_width u i f (Err h) e = refl
   size_width u i f (Ok ts) e =
       let p = width_told s.tables ts u i f e in
       let b = p.0 in
       to_tables ts (with_item s.tables u (with_sizing b i f)) p.1.1.is ∙
-      sizing_width s.tables.items u i f b t j p.1.1.there (omega (arith, p.1.0, (g.standing.able u b p.1.1.there).columns_there))
+      sizing_width s.tables.items u i f b t j p.1.1.there (omega (arith, p.1.0, g.standing.broad u b p.1.1.there))
 
   module _ (u across down : ℕ) where
     abbrev free : ℕ → Table → ℕ → Bool
     free = by_cells s.cells.items
 
-    size_place : (content : ℕ) (r : Result Added Fault) → place_lists free s.tables s.cells u across down content ≡ r → sizing_at (after_of s (Place u content across down) (added r)) t j ≡ sizing_at s t j
+    size_place : (content : ℕ) (r : Result Added Fault) → place_lists free s.tables s.cells u across down content ≡ r → sizing_at (after_of s (added r)) t j ≡ sizing_at s t j
     size_place content (Err f) e = refl
     size_place content (Ok a) e =
         let p = place_told free s.tables s.cells u across down a content e in
         to_tables a.tables _ p.tables_are ∙ sizing_set s.tables.items u p.adds.table _ t j p.adds.there refl
 
-    size_nest : (n q : ℕ) (r : Result Added Fault) → nest_lists free s.tables s.cells u across down n q ≡ r → sizing_at (after_of s (Nest u across down n q) (added r)) t j ≡ sizing_at s t j
+    size_nest : (n q : ℕ) (r : Result Added Fault) → nest_lists free s.tables s.cells u across down n q ≡ r → sizing_at (after_of s (added r)) t j ≡ sizing_at s t j
     size_nest n q (Err f) e = refl
     size_nest n q (Ok a) e =
         let p = nest_told free s.tables s.cells u across down a n q e in
@@ -134,11 +109,6 @@ module _ (s : State) (g : Sound s) (t j : ℕ) where
   sized_next (Row u) = size_row u (row_tables s.tables u) refl
   sized_next (Place u content across down) = size_place u across down content (place_lists (by_cells s.cells.items) s.tables s.cells u across down content) refl
   sized_next (Nest u across down n q) = size_nest u across down n q (nest_lists (by_cells s.cells.items) s.tables s.cells u across down n q) refl
-  sized_next (Layout m offer) =
-      let p = same_plan s m offer g in
-      sizing_same s.tables.items (next s (Layout m offer)).tables.items p.tables_same t j
-  sized_next (Box cell) = ap (λ z. sizing_at z t j) (box_stays s cell)
-  sized_next (Paint m first count slice) = ap (λ z. sizing_at z t j) (paint_stays s m first count slice)
   sized_next (Width u i f) = size_width u i f (width_tables s.tables u i f) refl
 
 pub sized_run : (s : State) (cs : List Call) (t j : ℕ) → Sound s → sizing_at (run s cs) t j ≡ last_set s cs t j (sizing_at s t j)

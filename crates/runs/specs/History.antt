@@ -1,5 +1,5 @@
 -- What a run did, told by its calls: what was made keeps its number, and columns are as last set.
-use Rattle.std.specs.Prelude.{◌≡◌, ℕ, ◌<◌, Bool, true, false, cond, ◌&&◌, List, [], ◌∷◌, ◌++◌, is_ok, Some, None, Ok, Option, ◌==◌, slice_index_or}
+use Rattle.std.specs.Prelude.{◌≡◌, ℕ, ◌<◌, Bool, cond, ◌&&◌, List, [], ◌∷◌, ◌++◌, is_ok, Some, None, Ok, Option, ◌==◌, slice_index_or}
 use Rattle.std.specs.List.{slice_get}
 use Rattle.plan.specs.declared.record.Cell.{Cell}
 use Rattle.plan.specs.declared.record.Holds.{Holds}
@@ -10,8 +10,8 @@ use Rattle.plan.specs.declared.record.Table.{Table}
 use Rattle.plan.specs.Blank.{blank_column}
 use Rattle.plan.specs.Steps.{sizing_of}
 use Rattle.runs.specs.State.{State}
-use Rattle.runs.specs.Calls.{Call, Start, Row, Place, Nest, Width, Layout, Box, Paint, Answer, Number, Outcome, wanted, next, run}
-use Rattle.runs.specs.Laws.{Planned, Setting, LaidFor}
+use Rattle.runs.specs.Calls.{Call, Start, Row, Place, Nest, Width, Answer, Number, Outcome, wanted, next, run}
+use Rattle.runs.specs.Laws.{Planned}
 
 -- cell i is in table t, spans so many columns and rows, and holds that
 pub record Stands (s : State) (i t across down : ℕ) (holds : Holds) : Type 0 where
@@ -41,37 +41,12 @@ set_by s (Start n q) t j z = z
 set_by s (Row u) t j z = z
 set_by s (Place u content across down) t j z = z
 set_by s (Nest u across down n q) t j z = z
-set_by s (Layout m offer) t j z = z
-set_by s (Box cell) t j z = z
-set_by s (Paint m first count slice) t j z = z
 set_by s (Width u i f) t j z = cond (is_ok (wanted s (Width u i f)) && (u == t && i == j)) (sizing_of f) z
 
 -- how a column is sized after calls: as last set
 abbrev pub last_set : State → List Call → ℕ → ℕ → Sizing → Sizing
 last_set s [] t j z = z
 last_set s (c ∷ cs) t j z = last_set (next s c) cs t j (set_by s c t j z)
-
--- what the sheet is laid for after a call: an accepted layout sets it
-abbrev pub laid_by : State → Call → Option Setting → Option Setting
-laid_by s (Start n q) x = x
-laid_by s (Row t) x = x
-laid_by s (Place t content across down) x = x
-laid_by s (Nest t across down n q) x = x
-laid_by s (Width t j f) x = x
-laid_by s (Layout m offer) x = cond (is_ok (wanted s (Layout m offer))) (Some (record { meaning = m; offer = offer })) x
-laid_by s (Box cell) x = x
-laid_by s (Paint m first count slice) x = x
-
--- what the last accepted layout laid the sheet for
-abbrev pub last_laid : State → List Call → Option Setting → Option Setting
-last_laid s [] x = x
-last_laid s (c ∷ cs) x = last_laid (next s c) cs (laid_by s c x)
-
--- the state is laid for what was told
-pub record LaidAs (x : Option Setting) (s : State) : Type 0 where
-  pub setting : Setting
-  pub told : x ≡ Some setting
-  pub laid : LaidFor setting s
 
 -- after the calls from the state s
 pub record Told (s : State) (calls : List Call) : Type 0 where
@@ -90,5 +65,3 @@ pub record Told (s : State) (calls : List Call) : Type 0 where
       Shaped (run s calls) i n q × Hangs (run s calls) i t across down
   -- columns are as last set
   pub sized : (t j : ℕ) → sizing_at (run s calls) t j ≡ last_set s calls t j (sizing_at s t j)
-  -- whenever the sheet is laid, it is so for the last accepted layout
-  pub laid : s.laid ≡ false → (run s calls).laid ≡ true → LaidAs (last_laid s calls None) (run s calls)

@@ -1,7 +1,5 @@
-use Rattle.std.proofs.Common.{◌≡◌, get_or, sym, refl, arith}
-use Rattle.std.proofs.lemmas.List.{at_drop_all}
+use Rattle.std.proofs.Common.{◌≡◌, get_or, refl, arith}
 use Rattle.std.proofs.lemmas.Bool.Decides.{nat_tests}
-use Rattle.letters.specs.Verdicts.{reason_of}
 use Rattle.letters.proofs.Judging.{reason_at_lem}
 use Rattle.letters.proofs.reason_at.Goals as goal
 use Rattle.letters.proofs.reason_at.Goals.{else-b-eq38-via-then-b-eq38+else-not-is-badly-ended as then-b-eq38·else-not-is-badly-ended, else-b-eq38-via-else-b-eq38 as else-b-eq38}
@@ -20,6 +18,3 @@ pub returns : goal.returns
 returns c =
     let m = reason_at_lem c.args.kind c.args.s.now c.args.at (get_or c.args.s.now c.args.at 0) (omega arith) refl in
     elim c.else-b-eq38.branch [ then-b-eq38·else-not-is-badly-ended w ↦ grind (arith, nat_tests, w.is-badly-ended.ensures) | else-b-eq38 w ↦ grind (arith, nat_tests) ]
-
-pub returns-then-at-s : goal.returns-then-at-s
-returns-then-at-s c = sym (at_drop_all (reason_of c.args.kind) c.args.s.now c.args.at (omega arith))

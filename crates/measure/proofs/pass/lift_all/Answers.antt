@@ -1,7 +1,5 @@
-use Rattle.std.proofs.Common.{◌-◌, length, get_or, drop, sym, ap, ◌∙◌, arith}
+use Rattle.std.proofs.Common.{◌≡◌, ◌+◌, ◌-◌, length, get_or, drop, sym, ap, ◌∙◌, arith}
 use Rattle.plan.specs.Blank.{blank_cell}
-use Rattle.columns.specs.Columns.{over}
-use Rattle.columns.specs.Tables.{first_of}
 use Rattle.measure.specs.Asks.{asked, lifted, step}
 use Rattle.measure.proofs.Lift.{one_more, rest_all, written, asked_fits}
 use Rattle.measure.proofs.pass.lift_all.Goals as goal
@@ -11,24 +9,20 @@ pub loop-i-preserved : goal.loop-i-preserved
 loop-i-preserved c =
     let a = c.args in
     let i = c.loop-i.i in
-    let n = length a.cols.now in
-    let k = get_or a.cells.now i blank_cell in
-    let e = c.asked.ensures ∙ ap (λ m. asked a.axis a.t m a.s i k a.asks.now) c.loop-i.auto.cols in
+    let e = c.asked.ensures ∙ ap (λ n. asked a.t n a.s i (get_or a.cells.now i blank_cell) a.asks.now) c.loop-i.auto.cols in
     elim c.match-asked.branch [
       | in-Some w ↦
-          let fit = asked_fits a.axis a.t n a.s i k a.asks.now w.in-Some.ask (sym e ∙ w.in-Some.is) in
-          one_more (step a.spacing) a.axis a.t n a.s a.cells.now a.asks.now i c.loop-i.cols c.match-asked.cols _ _ (omega arith) (sym w.in-Some.is ∙ e)
-          (w.cols-is
-          ∙ written (lifted a.spacing w.in-Some.ask) w.first-of-first.result a.s _ c.loop-i.cols w.lift.new.cols (omega (arith, fit.2)) (omega arith) w.lift.ensures
-          ∙ ap (λ j. over (lifted a.spacing w.in-Some.ask) j a.s c.loop-i.cols) w.first-of-first.ensures
-          ∙ ap (λ m. over (lifted a.spacing w.in-Some.ask) (first_of a.axis k) m c.loop-i.cols) (sym fit.0))
+          let k = get_or a.cells.now i blank_cell in
+          let inside = asked_fits a.t (length a.cols.now) a.s i k a.asks.now w.in-Some.ask (sym e ∙ w.in-Some.is) in
+          one_more (step a.spacing) a.t (length a.cols.now) a.s a.cells.now a.asks.now i c.loop-i.cols c.match-asked.cols _ _ (omega arith) (sym w.in-Some.is ∙ e)
+          (w.cols-is ∙ written (lifted a.spacing w.in-Some.ask) k.column k.across (k.column + k.across - k.column) c.loop-i.cols w.lift.new.cols (omega (arith, inside)) (omega arith) w.lift.ensures)
           c.loop-i.invariant
       | in-default w ↦
-          one_more (step a.spacing) a.axis a.t n a.s a.cells.now a.asks.now i c.loop-i.cols c.match-asked.cols _ _ (omega arith) (sym w.in-default.is ∙ e)
+          one_more (step a.spacing) a.t (length a.cols.now) a.s a.cells.now a.asks.now i c.loop-i.cols c.match-asked.cols _ _ (omega arith) (sym w.in-default.is ∙ e)
           w.cols-is c.loop-i.invariant
     ]
 
 pub returns : goal.returns
 returns c =
     let a = c.args in
-    sym (rest_all (step a.spacing) a.axis a.t (length a.cols.now) a.s c.loop-i.i a.cells.now (drop c.loop-i.i a.asks.now) c.loop-i.cols (omega arith)) ∙ c.loop-i.invariant
+    sym (rest_all (step a.spacing) a.t (length a.cols.now) a.s c.loop-i.i a.cells.now (drop c.loop-i.i a.asks.now) c.loop-i.cols (omega arith)) ∙ c.loop-i.invariant

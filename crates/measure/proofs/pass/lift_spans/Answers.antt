@@ -1,6 +1,5 @@
-use Rattle.std.proofs.Common.{◌+◌, length, sym, ap, ◌∙◌, arith}
+use Rattle.std.proofs.Common.{◌≡◌, length, get_or, sym, ap, ◌∙◌, arith}
 use Rattle.columns.specs.Columns.{each_of}
-use Rattle.columns.specs.Tables.{widest_span}
 use Rattle.measure.specs.Asks.{wants, step}
 use Rattle.measure.proofs.Marks.{each_absent}
 use Rattle.measure.proofs.Walk.{span_more, span_none}
@@ -13,21 +12,19 @@ loop-s-preserved c =
     let s = c.loop-s.s in
     let f = step a.spacing in
     let n = length a.cols.now in
-    let xs = wants a.axis a.t n a.cells.now a.asks.now in
-    let one = span_more f (widest_span a.axis + 1) s xs c.loop-s.cols c.if-marks-s.cols _ (omega arith) in
+    let xs = wants a.t n a.cells.now a.asks.now in
     elim c.if-marks-s.branch [
       | then-marks-s w ↦
-          one
-          (w.cols-is ∙ w.lift-all.ensures ∙ ap (λ m. each_of s f (wants a.axis a.t m a.cells.now a.asks.now) c.loop-s.cols) c.loop-s.auto.cols)
+          span_more f s xs c.loop-s.cols c.if-marks-s.cols _ (omega arith)
+          (w.cols-is ∙ w.lift-all.ensures ∙ ap (λ m. each_of s f (wants a.t m a.cells.now a.asks.now) c.loop-s.cols) c.loop-s.auto.cols)
           c.loop-s.invariant
       | else-marks-s w ↦
-          one
-          (w.cols-is ∙ sym (each_absent f a.axis a.t n s a.cells.now a.asks.now c.loop-s.cols (c.mark-spans-marks.ensures s w.if-marks-s.false)))
+          span_more f s xs c.loop-s.cols c.if-marks-s.cols _ (omega arith)
+          (w.cols-is ∙ sym (each_absent f a.t n s a.cells.now a.asks.now c.loop-s.cols (c.mark-spans-marks.ensures s w.if-marks-s.false)))
           c.loop-s.invariant
     ]
 
 pub returns : goal.returns
 returns c =
     let a = c.args in
-    span_none (step a.spacing) (widest_span a.axis + 1) c.loop-s.s (wants a.axis a.t (length a.cols.now) a.cells.now a.asks.now) c.loop-s.cols _
-    (omega arith) c.loop-s.invariant
+    span_none (step a.spacing) c.loop-s.s (wants a.t (length a.cols.now) a.cells.now a.asks.now) c.loop-s.cols _ (omega arith) c.loop-s.invariant

@@ -4,4 +4,4 @@ use Rattle.measure.proofs.pass.mark_spans.Given as goal
 
 -- a span without a mark is not among the cells so far
 abbrev pub invariant-loop-cell : goal.invariant-loop-cell
-invariant-loop-cell l = Marked l.axis l.t l.n l.marks (take l.cell-index l.cells) × (length l.marks ≡ 65)
+invariant-loop-cell l = Marked l.t l.n l.marks (take l.cell-index l.cells) × (length l.marks ≡ 33)

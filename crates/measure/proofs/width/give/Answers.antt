@@ -1,7 +1,13 @@
-use Rattle.std.proofs.Common.{◌∙◌, arith}
-use Rattle.measure.proofs.Give.{room, gives_least, gives_greatest, gives_between}
+use Rattle.std.proofs.Common.{◌≡◌, length, ◌∙◌, arith}
+use Rattle.measure.proofs.Give.{room, around_small, gives_least, gives_greatest, gives_between}
 use Rattle.measure.proofs.width.give.Goals as goal
 use Rattle.measure.proofs.width.give.Goals.{then-offered-least, else-offered-least+then-greatest-offered, else-offered-least+else-greatest-offered}
+
+pub overflow-add-least : goal.overflow-add-least
+overflow-add-least c = omega (arith, around_small c.args.spacing (length c.args.cols.now) (omega arith) (omega arith))
+
+pub overflow-add-greatest : goal.overflow-add-greatest
+overflow-add-greatest c = omega (arith, around_small c.args.spacing (length c.args.cols.now) (omega arith) (omega arith))
 
 pub widen-all-requires : goal.widen-all-requires
 widen-all-requires c = omega (arith, room c.args.cols.now)
@@ -18,7 +24,7 @@ returns c =
             | then-offered-least w ↦ gives_least q A cs ds (omega arith) (w.cols-is ∙ w.settle-all.ensures)
             | else-offered-least+then-greatest-offered w ↦ gives_greatest q A cs ds (omega arith) (omega arith) (w.cols-is ∙ w.settle-all-then-greatest-offered.ensures)
             | else-offered-least+else-greatest-offered w ↦
-                gives_between q A cs ds c.full-width-least.result c.full-width-least.ensures (omega arith) (omega arith) (w.cols-is ∙ w.widen-all.ensures)
+                gives_between q A cs ds c.sum-of.result c.sum-of.ensures.value (omega arith) (omega arith) (w.cols-is ∙ w.widen-all.ensures)
           ];
       overflow = omega arith;
     }

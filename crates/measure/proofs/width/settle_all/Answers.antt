@@ -1,6 +1,6 @@
 use Rattle.std.proofs.Common.{arith}
 use Rattle.measure.specs.Bounds.{bound_of}
-use Rattle.columns.specs.Tables.{as_wide}
+use Rattle.measure.specs.Widths.{as_wide}
 use Rattle.measure.proofs.Deal.{mapped_more, mapped_all}
 use Rattle.measure.proofs.width.settle_all.Goals as goal
 

@@ -1,6 +1,6 @@
 use Rattle.std.proofs.Common.{◌≡◌, ◌++◌, map, take, drop}
 use Rattle.measure.specs.Bounds.{bound_of}
-use Rattle.columns.specs.Tables.{as_wide}
+use Rattle.measure.specs.Widths.{as_wide}
 use Rattle.measure.proofs.width.settle_all.Given as goal
 
 abbrev pub invariant-loop-c : goal.invariant-loop-c

@@ -7,7 +7,7 @@ use Rattle.plan.specs.Stock.{Stock, held}
 use Rattle.runs.specs.State.{State, state_of, empty}
 use Rattle.runs.specs.Calls.{Reached}
 use Rattle.runs.specs.History.{Told}
-use Rattle.runs.proofs.Plans.{sound_empty}
+use Rattle.runs.proofs.Good.{sound_empty}
 use Rattle.runs.proofs.History.{told}
 use Rattle.runs.proofs.Planned.{reached_empty}
 use Rattle.engine.proofs.hold.Sheet.new.Goals as goal
