@@ -1,4 +1,6 @@
 // Why a call declines, and where.
+#![tactic(auto)]
+
 ghost use Rattle.std.specs.Prelude.{◌≡◌};
 ghost use Rattle.fault.specs.Numbers.{number_of, fault};
 

@@ -1,4 +1,6 @@
 // The worked figures of the rules follow from the definitions.
+#![tactic(auto)]
+
 ghost use Rattle.std.specs.Prelude.{◌≡◌, length};
 ghost use Rattle.figures.specs.Figures.{figures, FiguresHold};
 

@@ -4,7 +4,7 @@ use Rattle.fault.specs.Numbers.{fault}
 use Rattle.fault.specs.declared.Fault.{Fault}
 use Rattle.fault.specs.declared.Reason.{Reason}
 use Rattle.fault.specs.declared.Reason.TheVariants.{ByteNotAllowed, Malformed}
-use Rattle.bytes.specs.Classes.{from_to}
+use Rattle.classes.specs.Classes.{from_to}
 use Rattle.letters.specs.declared.Kind.{Kind}
 use Rattle.letters.specs.Letters.{allowed, letter_of, letters}
 use Rattle.letters.specs.Spelling.{Spells}

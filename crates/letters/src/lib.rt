@@ -1,10 +1,12 @@
 // The characters that the bytes of a content stand for.
+#![tactic(auto)]
+
 ghost use Rattle.std.specs.Prelude.{◌≡◌, ◌<◌, ◌≤◌, length, drop, MatchOption};
-ghost use Rattle.bytes.specs.Classes.{white};
+ghost use Rattle.classes.specs.Classes.{white};
 ghost use Rattle.letters.specs.Letters.{begins, plain, allowed, letter_of, letter_at, Stepped};
 ghost use Rattle.letters.specs.Verdicts.{ends_badly, reason_of, verdict, Judged};
 
-use bytes::{Class, class_of};
+use classes::{Class, class_of};
 use fault::{Fault, Reason};
 
 /// The two kinds of content that a file holds: words, or lines as they stand.

@@ -1,4 +1,6 @@
 // The one list that everything is kept in, over memory that the caller lends.
+#![tactic(auto)]
+
 mod calls;
 mod store;
 

@@ -3,9 +3,9 @@ use Rattle.std.proofs.Common.{◌≡◌, ℕ, suc, ◌+◌, ◌<◌, ◌≤◌, 
 use Rattle.std.proofs.lemmas.List.{at_drop_more, at_drop_all}
 use Rattle.std.proofs.lemmas.Bool.{cond-true, cond-false}
 use Rattle.std.proofs.lemmas.Bool.Decides.{nat_tests}
-use Rattle.bytes.specs.Classes.{class_of}
-use Rattle.bytes.specs.declared.Class.{Class}
-use Rattle.bytes.specs.declared.Class.TheVariants.{Greater, Forbidden}
+use Rattle.classes.specs.Classes.{class_of}
+use Rattle.classes.specs.declared.Class.{Class}
+use Rattle.classes.specs.declared.Class.TheVariants.{Greater, Forbidden}
 use Rattle.letters.specs.declared.Kind.TheVariants.{Text}
 use Rattle.letters.specs.Letters.{allowed}
 use Rattle.markup.specs.Tags.{before, all_allowed}

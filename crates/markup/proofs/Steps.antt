@@ -2,7 +2,7 @@
 use Rattle.std.proofs.Common.{◌≡◌, ℕ, zero, suc, ◌+◌, ◌-◌, ◌<◌, ◌≤◌, Bool, true, false, cond, ◌&&◌, eqb, ltb, List, [], ◌∷◌, length, get_or, take, drop, Some, None, Option, sym, refl, ap, ◌∙◌, arith}
 use Rattle.std.proofs.lemmas.List.{at_drop_more, drop-drop}
 use Rattle.std.proofs.lemmas.Bool.{and_from, lt-ltb, eq-eqb, ne_eqb, cond-true, cond-false}
-use Rattle.bytes.specs.Classes.{white}
+use Rattle.classes.specs.Classes.{white}
 use Rattle.markup.specs.declared.record.Attribute.{Attribute}
 use Rattle.markup.specs.Attributes.{Values, Given, Piece, Bad, Last, One, attribute_of, value_of, joined, given_at, given_of, piece_one, piece_at, piece_of, with_given, after_given, after_piece, values_of}
 use Rattle.markup.specs.Spans.{letter, front}

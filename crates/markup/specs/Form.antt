@@ -1,6 +1,6 @@
 -- The form of a tag's attributes as a grammar, and not as a scan.
 use Rattle.std.specs.Prelude.{◌≡◌, ℕ, ◌≤◌, Bool, true, List, [], ◌∷◌, ◌++◌, length, set, Some, ◌≢◌, slice_set}
-use Rattle.bytes.specs.Classes.{white}
+use Rattle.classes.specs.Classes.{white}
 use Rattle.markup.specs.declared.record.Attribute.{Attribute}
 use Rattle.markup.specs.Attributes.{Values, no_values, attribute_of, index_of, values_of}
 use Rattle.markup.specs.Spans.{letter, digit, number}

@@ -1,6 +1,6 @@
 -- What the types of the code stand for, and how far their values reach.
 use Rattle.std.specs.Prelude.{ℕ, ◌<◌, ◌≤◌, Bool, cond, List, take, Some, None, Option}
-use Rattle.bytes.specs.Classes.{white}
+use Rattle.classes.specs.Classes.{white}
 use Rattle.markup.specs.declared.spans.Span.{Span}
 use Rattle.markup.specs.declared.spans.Span.TheVariants.{White, Letters, Digits}
 use Rattle.markup.specs.declared.values.Given as code-given

@@ -1,4 +1,6 @@
 // Tags: their names, their attributes, and their form.
+#![tactic(auto)]
+
 mod record;
 mod spans;
 mod tags;

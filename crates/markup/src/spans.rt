@@ -3,7 +3,7 @@ ghost use Rattle.std.specs.Prelude.{◌≡◌, ◌≤◌, length, drop};
 ghost use Rattle.markup.specs.Spans.{front, lower, spells, number};
 ghost use Rattle.markup.specs.Views.{in_span};
 
-use bytes::{Class, class_of};
+use classes::{Class, class_of};
 
 /// What a run of bytes is made of.
 #[derive(Clone, Copy)]

@@ -9,7 +9,7 @@ ghost use Rattle.markup.specs.declared.record.Attribute.TheVariants.{Cols};
 use crate::record::{Attribute, CellTag, Name, TableTag, Tag};
 use crate::spans::{Span, front, spells, tail};
 use crate::values::{Values, attributes, index_of};
-use bytes::{Class, class_of};
+use classes::{Class, class_of};
 use fault::Reason;
 
 // The name that the letters spell.

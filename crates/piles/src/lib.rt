@@ -1,4 +1,6 @@
 // Tests alone: texts and blocks are set bare and under piles of layers, and every line is held to the page that the rules give.
+#![tactic(auto)]
+
 #[cfg(test)]
 mod blocks;
 #[cfg(test)]

@@ -1,4 +1,6 @@
 // The plan of a sheet: tables of columns and rows, and the cells that stand in them.
+#![tactic(auto)]
+
 mod calls;
 mod record;
 mod taken;

@@ -1,4 +1,6 @@
 // Tests alone: sheets are built call by call, and every answer and all that a sheet then holds is held to what the rules give.
+#![tactic(auto)]
+
 #[cfg(test)]
 mod limits;
 #[cfg(test)]

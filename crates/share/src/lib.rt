@@ -1,4 +1,6 @@
 // The share rule: an amount is shared over weights.
+#![tactic(auto)]
+
 ghost use Rattle.std.specs.Prelude.{◌≡◌, ◌-◌};
 ghost use Rattle.share.specs.Laws.{SharesAreFair};
 ghost use Rattle.share.specs.Share.{brings};

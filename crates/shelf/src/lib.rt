@@ -1,4 +1,6 @@
 // The one interface through which contents are met: how wide and tall each is, and what its lines show.
+#![tactic(auto)]
+
 ghost use Rattle.std.specs.Prelude.{◌≡◌, length, replicate};
 ghost use Rattle.shelf.specs.Shelves.{Meaning, Lawful};
 ghost use Rattle.shelf.specs.Answers.{widths_answer, height_answer, line_answer, written};

@@ -1,4 +1,6 @@
 // Sets standard input as one text with padding and a frame, and prints what it did.
+#![tactic(auto)]
+
 mod size;
 mod trouble;
 

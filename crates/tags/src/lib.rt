@@ -1,4 +1,6 @@
 // Tests alone: tags are read, and what each says is held to what its bytes spell.
+#![tactic(auto)]
+
 #[cfg(test)]
 mod form;
 #[cfg(test)]

@@ -4,7 +4,7 @@ use Rattle.std.specs.List.{AllByRecursion as All}
 use Rattle.std.proofs.lemmas.List.{append_assoc, append-nil}
 use Rattle.std.proofs.ByRecursion.{All-push}
 use Rattle.std.proofs.lemmas.Bool.{cond_both}
-use Rattle.bytes.specs.Classes.{white}
+use Rattle.classes.specs.Classes.{white}
 use Rattle.typeset.specs.Words.{closed, parted, words}
 use Rattle.typeset.specs.Runs.{Solid}
 use Rattle.typeset.specs.Lines.{spaced, shown, lines}

@@ -1,7 +1,7 @@
 -- There are no more lines than bytes, and one.
 use Rattle.std.proofs.Common.{◌≡◌, ℕ, zero, suc, ◌+◌, ◌≤◌, cond, leb, List, [], ◌∷◌, ◌++◌, length, arith, length-append}
 use Rattle.std.proofs.lemmas.Bool.{cond_both}
-use Rattle.bytes.specs.Classes.{white}
+use Rattle.classes.specs.Classes.{white}
 use Rattle.letters.specs.Letters.{letter_of, letters, letters_after}
 use Rattle.letters.specs.declared.Kind.{Kind}
 use Rattle.letters.specs.declared.Kind.TheVariants.{Text}

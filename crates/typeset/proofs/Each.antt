@@ -3,7 +3,7 @@ use Rattle.std.proofs.Common.{◌≡◌, ℕ, zero, suc, ◌+◌, ◌-◌, ◌�
 use Rattle.std.specs.List.{AllByRecursion as All}
 use Rattle.std.proofs.ByRecursion.{All-append, All-push}
 use Rattle.std.proofs.lemmas.Bool.{cond_both}
-use Rattle.bytes.specs.Classes.{white}
+use Rattle.classes.specs.Classes.{white}
 use Rattle.typeset.specs.Words.{closed, parted, words, longest}
 use Rattle.typeset.specs.Lines.{spaced, places, onto, filled, lines}
 use Rattle.typeset.proofs.Laws.{length_spaced}

@@ -1,7 +1,7 @@
 use Rattle.std.proofs.Common.{◌≡◌, ℕ, ◌<◌, ◌≤◌, Bool, true, false, not, ◌⊎◌, get_or, sym, refl, ap, ◌∙◌, arith}
 use Rattle.std.proofs.lemmas.Bool.{cond-true, cond-false}
 use Rattle.std.proofs.lemmas.Bool.Decides.{nat_tests}
-use Rattle.bytes.specs.Classes.{from_to}
+use Rattle.classes.specs.Classes.{from_to}
 use Rattle.letters.proofs.Judging.{badly_more, badly_none}
 use Rattle.letters.proofs.is_badly_ended.Goals as goal
 
@@ -15,7 +15,7 @@ pub returns-then-b-lt97 : goal.returns-then-b-lt97
 returns-then-b-lt97 c =
     let b = get_or c.args.s.now c.loop-i.i 0 in
     let m = badly_more c.args.kind c.args.s.now c.loop-i.i b (omega arith) refl in
-    ap not c.is-allowed.ensures ∙ sym (m ∙ cond-false (from_to 97 122 b) _ _ (other b c.then-b-lt97.either)) ∙ c.loop-i.invariant
+    ap not c.is_allowed.ensures ∙ sym (m ∙ cond-false (from_to 97 122 b) _ _ (other b c.then-b-lt97.either)) ∙ c.loop-i.invariant
 
 pub loop-i-preserved : goal.loop-i-preserved
 loop-i-preserved c =

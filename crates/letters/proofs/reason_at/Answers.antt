@@ -9,8 +9,8 @@ returns-then-b-eq60 c =
     let m = reason_at_lem c.args.kind c.args.s.now c.args.at (get_or c.args.s.now c.args.at 0) (omega arith) refl in
     grind (arith, nat_tests)
 
-pub returns-then-not-is-badly-ended : goal.returns-then-not-is-badly-ended
-returns-then-not-is-badly-ended c =
+pub returns-then-not-is_badly_ended : goal.returns-then-not-is_badly_ended
+returns-then-not-is_badly_ended c =
     let m = reason_at_lem c.args.kind c.args.s.now c.args.at (get_or c.args.s.now c.args.at 0) (omega arith) refl in
     grind (arith, nat_tests)
 

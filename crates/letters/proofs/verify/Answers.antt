@@ -15,7 +15,7 @@ loop-letter-preserved c =
 
 pub returns : goal.returns
 returns c =
-    let end = c.in-default.ensures.steps in
+    let end = c.in_default.ensures.steps in
     record {
       value = sym (verdict_none c.args.kind c.args.s.now c.loop-letter.at end) ∙ c.loop-letter.invariant.0;
       judged = spelled_all c.args.kind c.args.s.now c.loop-letter.at end c.loop-letter.invariant.1;

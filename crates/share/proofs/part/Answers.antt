@@ -16,4 +16,4 @@ returns-then-sum-eq0 c =
     record { value = omega arith; fair = shares_are_fair }
 
 pub returns : goal.returns
-returns c = record { value = c.saturating-sub.ensures; fair = shares_are_fair }
+returns c = record { value = c.saturating_sub.ensures; fair = shares_are_fair }

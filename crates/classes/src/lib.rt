@@ -1,6 +1,8 @@
 // The class of each byte.
+#![tactic(auto)]
+
 ghost use Rattle.std.specs.Prelude.{◌≡◌};
-ghost use Rattle.bytes.specs.Classes.{class_of};
+ghost use Rattle.classes.specs.Classes.{class_of};
 
 /// What a byte is in a file.
 #[derive(Clone, Copy)]

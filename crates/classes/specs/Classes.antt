@@ -1,7 +1,7 @@
 -- The class of a byte, by ranges.
 use Rattle.std.specs.Prelude.{ℕ, Bool, cond, ◌&&◌, ◌||◌, ◌==◌, nat_le}
-use Rattle.bytes.specs.declared.Class.{Class}
-use Rattle.bytes.specs.declared.Class.TheVariants.{White, Letter, Digit, Less, Greater, Ampersand, Quote, Equals, Slash, Printable, Forbidden}
+use Rattle.classes.specs.declared.Class.{Class}
+use Rattle.classes.specs.declared.Class.TheVariants.{White, Letter, Digit, Less, Greater, Ampersand, Quote, Equals, Slash, Printable, Forbidden}
 
 abbrev pub from_to : ℕ → ℕ → ℕ → Bool
 from_to low high b = nat_le low b && nat_le b high
