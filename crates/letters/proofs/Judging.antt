@@ -1,19 +1,18 @@
 -- How the verdict goes on from character to character, and what it says.
-use Rattle.std.proofs.Common.{◌≡◌, ℕ, zero, suc, ◌+◌, ◌<◌, ◌≤◌, Bool, true, false, cond, not, ◌&&◌, ◌||◌, eqb, List, [], ◌∷◌, ◌++◌, length, get_or, take, drop, Some, None, Ok, Err, codes, Result, sym, refl, ap, ◌∙◌, subst, arith, length-drop, take-add}
+use Rattle.std.proofs.Common.{◌≡◌, ℕ, zero, suc, ◌+◌, ◌<◌, ◌≤◌, false, cond, not, ◌&&◌, ◌||◌, eqb, List, [], ◌∷◌, ◌++◌, length, get_or, take, drop, Some, Ok, Err, codes, Result, sym, refl, ap, ◌∙◌, subst, arith, length-drop, take-add}
 use Rattle.std.proofs.lemmas.Slice.Eq.{bytes_eq-Decides}
 use Rattle.std.proofs.lemmas.List.{drop-drop, drop_all, at_drop_more, take_all}
 use Rattle.std.proofs.lemmas.Bool.{cond_both, cond-true, cond-false, ne_eqb, eq-eqb}
 use Rattle.std.proofs.lemmas.Bool.Decides.{nat_tests}
 use Rattle.fault.specs.Numbers.{fault}
 use Rattle.fault.specs.declared.Fault.{Fault}
-use Rattle.fault.specs.declared.Reason.{Reason}
 use Rattle.fault.specs.declared.Reason.TheVariants.{ByteNotAllowed, Malformed}
 use Rattle.classes.specs.Classes.{from_to}
 use Rattle.letters.specs.declared.Kind.{Kind}
-use Rattle.letters.specs.Letters.{begins, plain, allowed, itself, letter_of, letter_at, letters}
+use Rattle.letters.specs.Letters.{plain, allowed, itself, letter_of, letter_at, letters}
 use Rattle.letters.specs.declared.Letter.{Letter}
 use Rattle.letters.specs.Spelling.{Spells, nothing, byte, less, greater, ampersand, quote}
-use Rattle.letters.specs.Verdicts.{ends_badly, reason_of, verdict_after, verdict}
+use Rattle.letters.specs.Verdicts.{ends_badly, reason_of, verdict_after}
 use Rattle.letters.proofs.Steps.{by_letter}
 use Rattle.letters.proofs.Spelled.{spelled_read}
 

@@ -1,4 +1,4 @@
-use Rattle.std.proofs.Common.{◌≡◌, ◌-◌, ◌≤◌, length, drop}
+use Rattle.std.proofs.Common.{◌≡◌, ◌-◌, length, drop}
 use Rattle.letters.specs.Verdicts.{ends_badly}
 use Rattle.letters.proofs.is_badly_ended.Given as goal
 

@@ -1,8 +1,8 @@
-use Rattle.std.proofs.Common.{◌≡◌, ℕ, ◌+◌, ◌<◌, cond, ltb, length, drop, Some, None, refl, ap, ◌∙◌, arith}
+use Rattle.std.proofs.Common.{ℕ, ◌+◌, ◌<◌, length, drop, Some, None, ap, ◌∙◌, arith}
 use Rattle.std.proofs.lemmas.List.{take_rest}
 use Rattle.std.proofs.lemmas.Bool.{cond_below}
 use Rattle.letters.specs.declared.Letter.{Letter}
-use Rattle.letters.specs.Letters.{letter_of, letter_at}
+use Rattle.letters.specs.Letters.{letter_of}
 use Rattle.letters.proofs.Steps.{stepped}
 use Rattle.letters.proofs.next_letter.Goals as goal
 

@@ -1,4 +1,4 @@
-use Rattle.std.proofs.Common.{◌≡◌, sym, refl, ◌∙◌}
+use Rattle.std.proofs.Common.{sym, refl, ◌∙◌}
 use Rattle.letters.specs.Spelling.{nothing}
 use Rattle.letters.proofs.Judging.{verdict_more, verdict_none, spelled_more, spelled_all, letter_parts}
 use Rattle.letters.proofs.verify.Goals as goal
