@@ -62,10 +62,10 @@ fn write_word(s: &[u8], from: usize, out: &mut [u8])
 
 /// Writes over blanks the words of the first line from a byte on.
 pub(crate) fn write_text(s: &[u8], from: usize, out: &mut [u8])
-    requires from_in_bounds { from ≤ length s.now }
-    requires out_len_bound { length out.old ≤ 2000 }
-    requires from_in_bounds_2 { longest (words_from s.now from) ≤ length out.old }
-    requires out_value { out.old ≡ replicate (length out.old) 32 }
+    requires within { from ≤ length s.now }
+    requires narrow { length out.old ≤ 2000 }
+    requires fits { longest (words_from s.now from) ≤ length out.old }
+    requires blank { out.old ≡ replicate (length out.old) 32 }
     ensures { out.new ≡ shown (length out.old) (first (lines (length out.old) (words_from s.now from))) }
 {
     let mut at = from;

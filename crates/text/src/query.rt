@@ -30,9 +30,9 @@ fn survey(kind: Kind, s: &[u8], w: u16, r: u16) -> Survey
 
 // Shows the first line of the content that begins at a byte.
 fn show(kind: Kind, s: &[u8], from: usize, out: &mut [u8])
-    requires from_in_bounds { from ≤ length s.now }
-    requires out_len_bound { length out.old ≤ 2000 }
-    requires s_in_bounds { (content kind (drop from s.now)).least ≤ length out.old }
+    requires within { from ≤ length s.now }
+    requires narrow { length out.old ≤ 2000 }
+    requires fits { (content kind (drop from s.now)).least ≤ length out.old }
     ensures { out.new ≡ blank_filled (length out.old) (slice_index_or ((content kind (drop from s.now)).lines_at (length out.old)) 0 []) }
 {
     spread(out, b' ');

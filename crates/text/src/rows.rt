@@ -44,8 +44,8 @@ pub(crate) fn survey_block(s: &[u8], w: u16, r: u16) -> Survey
 
 /// Writes over blanks the line that begins at a byte.
 pub(crate) fn write_row(s: &[u8], from: usize, out: &mut [u8])
-    requires from_in_bounds { longest (rows_from s.now from) ≤ length out.old }
-    requires out_value { out.old ≡ replicate (length out.old) 32 }
+    requires fits { longest (rows_from s.now from) ≤ length out.old }
+    requires blank { out.old ≡ replicate (length out.old) 32 }
     ensures { out.new ≡ blank_filled (length out.old) (first (rows_from s.now from)) }
 {
     let mut at = from;

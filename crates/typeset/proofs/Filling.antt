@@ -1,14 +1,14 @@
 -- How lines are filled from word to word.
-use Rattle.std.proofs.Common.{◌≡◌, ℕ, zero, suc, ◌+◌, ◌-◌, ◌<◌, ◌≤◌, min, max, Bool, true, false, cond, not, leb, List, [], ◌∷◌, ◌++◌, length, get_or, take, drop, set, sym, refl, ap, ◌∙◌, ⊎_elim, arith, length-drop, length-take}
+use Rattle.std.proofs.Common.{◌≡◌, ℕ, ◌+◌, ◌<◌, ◌≤◌, max, leb, List, [], ◌∷◌, ◌++◌, length, take, drop, set, sym, ap, ◌∙◌, ⊎_elim, arith, length-drop, length-take}
 use Rattle.std.proofs.lemmas.Bool.{cond-true, cond-false, cond_both, le-leb, lt-leb, cases_lt}
-use Rattle.std.proofs.lemmas.List.{drop_all, take_all, take_more_set}
+use Rattle.std.proofs.lemmas.List.{take_all, take_more_set}
 use Rattle.letters.proofs.Steps.{letters_none}
 use Rattle.typeset.proofs.Steps.{front_more}
 use Rattle.typeset.proofs.Onto.{onto_some, length_onto}
 use Rattle.letters.specs.Letters.{letters_from}
 use Rattle.letters.specs.declared.Kind.TheVariants.{Text}
 use Rattle.typeset.specs.Words.{words_from, longest, Found}
-use Rattle.typeset.specs.Lines.{spaced, places, onto, filled, lines}
+use Rattle.typeset.specs.Lines.{places, onto, filled}
 
 -- the word that was found
 abbrev pub word_at : List ℕ → ℕ → ℕ → List ℕ

@@ -1,5 +1,5 @@
 -- A shelf of contents is lawful, and shows its texts and blocks faithfully.
-use Rattle.std.proofs.Common.{◌≡◌, ℕ, ◌+◌, ◌-◌, ◌<◌, ◌≤◌, min, max, Bool, true, ◌&&◌, leb, List, [], ◌∷◌, ◌++◌, map, length, get_or, drop, replicate, sym, refl, ap, ◌∙◌, subst, ⊎_elim, arith, lit≤, length-append}
+use Rattle.std.proofs.Common.{◌≡◌, ℕ, ◌-◌, ◌<◌, ◌≤◌, Bool, true, ◌&&◌, leb, List, [], ◌++◌, length, get_or, drop, replicate, sym, refl, ap, ◌∙◌, subst, ⊎_elim, arith, length-append}
 use lib.ListN.{length-replicate, get_or-replicate}
 use Rattle.std.proofs.lemmas.List.FromFn.{fill_by_all}
 use Rattle.std.proofs.lemmas.List.Elements.{length_all_zip, AllZip-get_or}
@@ -10,7 +10,7 @@ use Rattle.letters.specs.Spelling.{Spells}
 use Rattle.letters.specs.declared.Kind.{Kind}
 use Rattle.letters.specs.declared.Kind.TheVariants.{Text, Block}
 use Rattle.letters.proofs.Spelled.{spelled_read, read_spelled}
-use Rattle.shelf.specs.Shelves.{Meaning, Lawful, Fitting, largest, chars}
+use Rattle.shelf.specs.Shelves.{Meaning, Lawful, largest, chars}
 use Rattle.typeset.specs.Words.{words, longest}
 use Rattle.typeset.specs.Lines.{spaced, lines, blank_filled}
 use Rattle.typeset.specs.Filled.{Filled}

@@ -1,9 +1,9 @@
 -- What is written over blanks.
-use Rattle.std.proofs.Common.{◌≡◌, ℕ, zero, suc, ◌+◌, ◌-◌, ◌<◌, ◌≤◌, List, [], ◌∷◌, ◌++◌, length, get_or, take, drop, replicate, sym, refl, ap, ◌∙◌, arith, length-append}
+use Rattle.std.proofs.Common.{◌≡◌, ℕ, suc, ◌+◌, ◌-◌, ◌<◌, ◌≤◌, List, [], ◌∷◌, ◌++◌, length, replicate, sym, refl, ap, ◌∙◌, arith, length-append}
 use borrow.Rule.Slice.PartMut.{put_mid}
-use Rattle.std.proofs.lemmas.List.{append_assoc, take_at, drop_at, drop-replicate, get_or-drop}
+use Rattle.std.proofs.lemmas.List.{append_assoc, take_at, drop_at, drop-replicate}
 use Rattle.typeset.specs.Words.{words_from, longest, Found}
-use Rattle.typeset.specs.Lines.{spaced, shown, first, onto, filled, lines}
+use Rattle.typeset.specs.Lines.{spaced, shown, first, filled, lines}
 use Rattle.typeset.proofs.Filling.{word_at, fits_found, breaks_found, width_found, filled_some}
 use Rattle.typeset.proofs.Onto.{first_onto}
 use Rattle.typeset.proofs.Laws.{nothing_lost}

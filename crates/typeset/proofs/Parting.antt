@@ -1,12 +1,12 @@
 -- The words of characters are those that the characters part into.
-use Rattle.std.proofs.Common.{◌≡◌, ℕ, Bool, true, false, cond, not, List, [], ◌∷◌, ◌++◌, length, sym, refl, ap, ◌∙◌, subst, arith}
+use Rattle.std.proofs.Common.{◌≡◌, ℕ, false, not, List, [], ◌∷◌, ◌++◌, refl, ap, ◌∙◌, subst, arith}
 use Rattle.std.specs.List.{AllByRecursion as All}
-use Rattle.std.proofs.lemmas.List.{append_assoc, append-nil}
+use Rattle.std.proofs.lemmas.List.{append_assoc}
 use Rattle.std.proofs.ByRecursion.{All-push}
 use Rattle.std.proofs.lemmas.Bool.{cond_both, cond-true, not-false}
 use Rattle.classes.specs.Classes.{white}
 use Rattle.typeset.specs.Words.{closed, parted, words, inked}
-use Rattle.typeset.specs.Runs.{Solid, Parts, nothing, blank, word}
+use Rattle.typeset.specs.Runs.{Parts, nothing, blank, word}
 use Rattle.typeset.proofs.Steps.{parted_white, closed_some}
 use Rattle.typeset.proofs.Back.{Black, parted_run}
 

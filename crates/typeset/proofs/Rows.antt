@@ -1,15 +1,15 @@
 -- How the lines of a block are found from byte to byte, and that they are what the bytes spell.
-use Rattle.std.proofs.Common.{◌≡◌, ℕ, zero, suc, ◌+◌, ◌<◌, ◌≤◌, max, Bool, true, false, cond, eqb, List, [], ◌∷◌, ◌++◌, length, get_or, drop, codes, sym, refl, ap, ◌∙◌, subst, ⊎_elim, arith}
+use Rattle.std.proofs.Common.{◌≡◌, ℕ, zero, suc, ◌+◌, ◌<◌, ◌≤◌, max, Bool, true, false, cond, eqb, List, [], ◌∷◌, ◌++◌, length, get_or, drop, codes, sym, refl, ap, ◌∙◌, subst, arith}
 use Rattle.std.specs.List.{AllZip, AllByRecursion as All}
-use Rattle.std.proofs.lemmas.Bool.{cond-true, cond-false, cond_both, cases_Bool, eqb-true}
-use Rattle.letters.specs.Letters.{letters, letters_from, plain}
+use Rattle.std.proofs.lemmas.Bool.{cond-false, cond_both, eqb-true}
+use Rattle.letters.specs.Letters.{letters_from, plain}
 use Rattle.letters.specs.Spelling.{Spells, nothing, byte, less, greater, ampersand, quote}
 use Rattle.letters.specs.declared.Kind.TheVariants.{Block}
 use Rattle.letters.proofs.Steps.{letters_none}
 use Rattle.typeset.specs.Words.{longest}
-use Rattle.typeset.specs.Lines.{onto, first}
+use Rattle.typeset.specs.Lines.{onto}
 use Rattle.typeset.specs.Rows.{rows, rows_from, unlined, Lined}
-use Rattle.typeset.proofs.Onto.{onto_some, length_onto, first_onto}
+use Rattle.typeset.proofs.Onto.{onto_some}
 
 pub rows_some : (cs : List ℕ) → 0 < length (rows cs)
 rows_some [] = omega arith

@@ -1,13 +1,12 @@
 -- What is known of a text while its words are read one after the other, and at the end.
-use Rattle.std.proofs.Common.{◌≡◌, ℕ, ◌+◌, ◌-◌, ◌<◌, ◌≤◌, min, max, Bool, true, false, cond, ◌&&◌, eqb, List, [], ◌∷◌, map, length, get_or, drop, sym, refl, ap, ◌∙◌, subst, ⊎_elim, arith}
+use Rattle.std.proofs.Common.{◌≡◌, ℕ, ◌+◌, ◌-◌, ◌<◌, ◌≤◌, min, max, Bool, true, cond, ◌&&◌, eqb, List, [], ◌∷◌, map, length, sym, refl, ap, ◌∙◌, subst, arith}
 use Rattle.std.proofs.lemmas.List.{length-map}
-use Rattle.std.proofs.lemmas.Bool.{cond-true, cond-false, cond_both, cases_Bool, eqb-true, eqb-false}
+use Rattle.std.proofs.lemmas.Bool.{cond_both, eqb-true, eqb-false}
 use Rattle.letters.specs.Letters.{letters_from, sound}
 use Rattle.letters.specs.declared.Kind.TheVariants.{Text}
 use Rattle.typeset.specs.Words.{words_from, longest, Found}
-use Rattle.typeset.specs.Lines.{spaced, places, onto, filled, lines, first}
-use Rattle.typeset.specs.Contents.{content, measured, Starts, Surveyed}
-use Rattle.typeset.proofs.Onto.{onto_some}
+use Rattle.typeset.specs.Lines.{spaced, places, onto, filled, lines}
+use Rattle.typeset.specs.Contents.{measured, Surveyed}
 use Rattle.typeset.proofs.Steps.{and_shift, and_true}
 use Rattle.typeset.proofs.Filling.{word_at, longest_found, places_found, count_fits, count_breaks, count_end, fits_found, breaks_found, filled_some}
 use Rattle.typeset.proofs.Laws.{length_spaced}

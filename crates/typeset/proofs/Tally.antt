@@ -1,5 +1,5 @@
 -- What is known of a block while its characters are read one after the other, and at the end.
-use Rattle.std.proofs.Common.{◌≡◌, ℕ, ◌+◌, ◌-◌, ◌<◌, ◌≤◌, min, max, Bool, true, false, cond, not, ◌&&◌, eqb, List, [], ◌∷◌, ◌++◌, length, get_or, take, drop, set, replicate, sym, refl, ap, ◌∙◌, subst, arith, length-append, length-take}
+use Rattle.std.proofs.Common.{◌≡◌, ℕ, ◌+◌, ◌-◌, ◌<◌, ◌≤◌, min, max, Bool, true, cond, not, ◌&&◌, eqb, List, [], ◌∷◌, ◌++◌, length, take, drop, set, replicate, sym, refl, ap, ◌∙◌, subst, arith, length-append, length-take}
 use Rattle.std.proofs.lemmas.List.{take-append-drop, take_more_set, append-nil, append_assoc, drop-set-lt, drop-drop, drop-replicate}
 use Rattle.std.proofs.lemmas.Bool.{cond_both, eqb-true, eqb-false, ne_eqb}
 use Rattle.letters.specs.Letters.{letters_from, sound, Stepped}
@@ -7,8 +7,8 @@ use Rattle.letters.specs.declared.Kind.TheVariants.{Block}
 use Rattle.letters.proofs.Steps.{letters_none}
 use Rattle.typeset.specs.Words.{longest}
 use Rattle.typeset.specs.Lines.{onto, first, blank_filled}
-use Rattle.typeset.specs.Rows.{rows, rows_from}
-use Rattle.typeset.specs.Contents.{content, measured, Starts, Surveyed}
+use Rattle.typeset.specs.Rows.{rows_from}
+use Rattle.typeset.specs.Contents.{measured, Surveyed}
 use Rattle.typeset.proofs.Onto.{length_onto, first_onto}
 use Rattle.typeset.proofs.Steps.{sound_more, and_true}
 use Rattle.typeset.proofs.Rows.{rows_some, rows_break, rows_keep, rows_end, longest_after, longest_whole, longest_onto, longest_drop, longest_at}

@@ -1,5 +1,5 @@
 -- How the lines of a text are filled with words.
-use Rattle.std.specs.Prelude.{ℕ, ◌+◌, ◌-◌, Bool, cond, List, [], ◌∷◌, ◌++◌, length, replicate, nat_le, slice_index_or}
+use Rattle.std.specs.Prelude.{ℕ, ◌+◌, ◌-◌, cond, List, [], ◌∷◌, ◌++◌, length, replicate, nat_le, slice_index_or}
 
 -- words with single blanks between
 abbrev pub spaced : List (List ℕ) → List ℕ

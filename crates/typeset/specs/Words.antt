@@ -1,5 +1,5 @@
 -- The words of a text.
-use Rattle.std.specs.Prelude.{◌≡◌, ℕ, ◌+◌, ◌<◌, ◌≤◌, max, Bool, true, false, cond, not, List, [], ◌∷◌, ◌++◌, length, take}
+use Rattle.std.specs.Prelude.{◌≡◌, ℕ, ◌+◌, ◌<◌, ◌≤◌, max, Bool, false, cond, not, List, [], ◌∷◌, ◌++◌, length, take}
 use Rattle.classes.specs.Classes.{white}
 use Rattle.letters.specs.Letters.{letters_from}
 use Rattle.letters.specs.declared.Kind.TheVariants.{Text}

@@ -17,6 +17,6 @@ loop-word-preserved c =
 
 pub returns : goal.returns
 returns c =
-    let p = c.in-default.ensures in
-    let most : c.measure-2.result ≡ measured (c.loop-word.most - 1) = c.measure-2.ensures ∙ ap measured c.saturating-sub.ensures in
+    let p = c.in_default.ensures in
+    let most : c.measure-2.result ≡ measured (c.loop-word.most - 1) = c.measure-2.ensures ∙ ap measured c.saturating_sub.ensures in
     counting_all _ _ _ _ _ _ _ _ _ _ _ _ _ c.measure.ensures most c.min-2.ensures p.0 p.1 c.loop-word.invariant

@@ -1,4 +1,4 @@
-use Rattle.std.proofs.Common.{◌≡◌, ◌+◌, ◌-◌, ◌<◌, ◌≤◌, length}
+use Rattle.std.proofs.Common.{◌≡◌, ◌+◌, ◌-◌, ◌≤◌, length}
 use Rattle.typeset.specs.Words.{words_from, longest}
 use Rattle.typeset.specs.Lines.{filled, lines, first}
 use Rattle.typeset.proofs.Overlay.{overlaid}

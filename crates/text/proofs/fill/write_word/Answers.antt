@@ -4,9 +4,9 @@ use Rattle.letters.specs.declared.Kind.TheVariants.{Text}
 use Rattle.typeset.proofs.Filling.{byte_left, write_more, write_end}
 use Rattle.text.proofs.fill.write_word.Goals as goal
 
-pub returns-in-default : goal.returns-in-default
-returns-in-default c =
-    absurd (omega (arith, c.in-default.ensures.steps, byte_left c.args.s.now (letters_from Text c.args.s.now c.args.from) c.loop-x.at c.loop-x.x-index c.loop-x.invariant.0 (omega arith)))
+pub returns-in_default : goal.returns-in_default
+returns-in_default c =
+    absurd (omega (arith, c.in_default.ensures.steps, byte_left c.args.s.now (letters_from Text c.args.s.now c.args.from) c.loop-x.at c.loop-x.x-index c.loop-x.invariant.0 (omega arith)))
 
 pub loop-x-preserved : goal.loop-x-preserved
 loop-x-preserved c =

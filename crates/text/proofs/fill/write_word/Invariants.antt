@@ -1,4 +1,4 @@
-use Rattle.std.proofs.Common.{◌≡◌, ◌+◌, ◌-◌, ◌<◌, ◌≤◌, length, take, drop}
+use Rattle.std.proofs.Common.{◌≡◌, take, drop}
 use Rattle.letters.specs.Letters.{letters_from}
 use Rattle.letters.specs.declared.Kind.TheVariants.{Text}
 use Rattle.text.proofs.fill.write_word.Given as goal

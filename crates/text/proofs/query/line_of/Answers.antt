@@ -19,7 +19,7 @@ returns c =
     let ps = items c.args.places.now in
     let got = c.in-Some.ensures in
     let told = got.told in
-    let set = accepted c.args.w c.in-Some.told.least c.in-Some.told.high c.in-ok-high.high c.in-ok-high.ensures in
+    let set = accepted c.args.w c.in-Some.told.least c.in-Some.told.high c.in_ok-high.high c.in_ok-high.ensures in
     let small : (content c.args.kind (bytes_of file ps c.args.k)).least ≤ c.args.w = long_enough _ _ (omega (arith, told.least_is, set.0)) set.1 in
     let at = told.start_is small (omega (arith, told.high_is, set.2)) in
     record {

@@ -1,4 +1,4 @@
-use Rattle.std.proofs.Common.{◌≡◌, ℕ, List, [], length, get_or, drop, sym, refl, ap, ◌∙◌, subst}
+use Rattle.std.proofs.Common.{◌≡◌, ℕ, List, [], get_or, drop, sym, ap, ◌∙◌}
 use Rattle.letters.specs.declared.Kind.{Kind}
 use Rattle.letters.specs.declared.Kind.TheVariants.{Text}
 use Rattle.typeset.specs.Lines.{blank_filled, lines, shown, first}
@@ -14,4 +14,4 @@ text_line kind s out from m n ek en e =
     ap (λ k. blank_filled n (get_or ((content k (drop from s)).lines_at n) 0 [])) (sym ek)
 
 pub returns-in-Text : goal.returns-in-Text
-returns-in-Text c = text_line _ c.args.s.now _ c.args.from _ _ c.in-Text.is c.spread.auto.out c.write-text.ensures
+returns-in-Text c = text_line _ c.args.s.now _ c.args.from _ _ c.in-Text.is c.spread.auto.out c.write_text.ensures

@@ -3,8 +3,8 @@ use Rattle.list.specs.Held.{items}
 use Rattle.text.proofs.Found.{missing, outside, within}
 use Rattle.text.proofs.query.stretch.Goals as goal
 
-pub returns-in-default : goal.returns-in-default
-returns-in-default c = search (rules, missing)
+pub returns-in_default : goal.returns-in_default
+returns-in_default c = search (rules, missing)
 
 pub returns-then-from-to : goal.returns-then-from-to
 returns-then-from-to c =

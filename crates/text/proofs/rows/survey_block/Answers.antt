@@ -13,4 +13,4 @@ loop-letter-preserved c = tallied_keep _ _ _ _ _ _ _ _ _ _ c.in-Some.ensures.ste
 pub returns : goal.returns
 returns c =
     let wide : c.measure-wide.result ≡ measured (max c.loop-letter.width c.loop-letter.least) = c.measure-wide.ensures ∙ ap measured c.max.ensures in
-    tallied_all _ _ _ _ _ _ _ _ _ _ _ wide c.min.ensures c.in-default.ensures.steps c.loop-letter.invariant
+    tallied_all _ _ _ _ _ _ _ _ _ _ _ wide c.min.ensures c.in_default.ensures.steps c.loop-letter.invariant

@@ -7,4 +7,4 @@ loop-word-preserved c =
     (f.high, omega (arith, f.low, f.some), omega (arith, ap length f.first))
 
 pub returns : goal.returns
-returns c = omega (arith, ap length c.in-default.ensures.0)
+returns c = omega (arith, ap length c.in_default.ensures.0)
