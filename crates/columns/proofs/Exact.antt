@@ -1,11 +1,10 @@
 -- A column that no longer span raises has just what its own cells ask, or its fixed width.
-use Rattle.std.proofs.Common.{◌≡◌, ℕ, zero, suc, ◌+◌, ◌-◌, ◌*◌, ◌/◌, ◌<◌, ◌≤◌, max, Bool, true, false, cond, ◌&&◌, eqb, ◌⊎◌, List, [], ◌∷◌, ◌++◌, map, length, get_or, take, drop, sym, refl, ap, ◌∙◌, subst, ap₂, inl, inr, arith, length-take, get_or-take}
+use Rattle.std.proofs.Common.{◌≡◌, ℕ, zero, suc, ◌+◌, ◌-◌, ◌<◌, ◌≤◌, max, Bool, true, false, cond, ◌&&◌, eqb, List, [], ◌∷◌, map, length, get_or, take, drop, sym, refl, ap, ◌∙◌, subst, inl, inr, arith, get_or-take}
 use native.Mathlib.Nat.{sub_self}
 use Rattle.std.specs.List.{AllByRecursion as All}
-use Rattle.std.proofs.ByRecursion.{All-weaker}
 use Rattle.std.proofs.lemmas.List.{length-map, length-drop, get_or_append_left, get_or-append_right, get_or-drop, get_or-map, length-take-le}
-use Rattle.std.proofs.lemmas.Bool.{both_ways, cond_both, cond-true, cond-false, cases_lt, cases_eq, cases_Bool, eq-eqb, ne_eqb, and_left, eqb-false}
-use Rattle.share.specs.Share.{total, upto, part, parts, brings}
+use Rattle.std.proofs.lemmas.Bool.{both_ways, cond_both, cond-true, cond-false, cases_lt, cases_eq, cases_Bool, eq-eqb, ne_eqb, and_left}
+use Rattle.share.specs.Share.{total, upto, parts, brings}
 use Rattle.share.proofs.Totals.{upto_suc}
 use Rattle.share.proofs.Parts.{parts_length, part_each}
 use Rattle.plan.specs.declared.record.Column.{Column}
@@ -14,9 +13,8 @@ use Rattle.plan.specs.declared.record.Sizing.TheVariants.{Free, Fixed}
 use Rattle.plan.specs.Blank.{blank_column}
 use Rattle.columns.specs.Wants.{Want}
 use Rattle.columns.specs.Columns.{leasts, free, is_free, fixed_at, fixed_of, over, spanned, fresh, raised_to, raise_one, held, need, free_weights, none_free, weight, even_weights, with_parts, more_least, more_greatest, meet_minimum, meet_maximum, raise_span, each_of, spans, pass}
-use Rattle.columns.specs.Laws.{Fits, Open, own_minimum, Spares, own_least}
+use Rattle.columns.specs.Laws.{Fits, own_minimum, Spares, own_least}
 use Rattle.columns.proofs.Grown.{Grown, none, more, grown_trans, grown_length, grown_one, grown_span, grown_held, grown_meet, grown_each_of}
-use Rattle.columns.proofs.Served.{leasts_widened}
 use Rattle.columns.proofs.Wide.{open_grown, fresh_weights}
 
 -- the least of column j

@@ -1,11 +1,11 @@
 -- The column pass only ever raises the leasts.
-use Rattle.std.proofs.Common.{◌≡◌, ℕ, zero, suc, ◌+◌, ◌-◌, ◌*◌, ◌<◌, ◌≤◌, max, Bool, true, false, cond, eqb, List, [], ◌∷◌, ◌++◌, map, length, take, drop, sym, refl, ap, ◌∙◌, subst, ap₂, le_refl, zero-add, arith}
+use Rattle.std.proofs.Common.{◌≡◌, ℕ, zero, suc, ◌≤◌, eqb, List, [], ◌∷◌, ◌++◌, map, length, take, drop, sym, refl, ap, ◌∙◌, subst, ap₂, le_refl, arith}
 use Rattle.std.proofs.lemmas.List.{take-append-drop}
 use Rattle.std.proofs.lemmas.Bool.{cond_both}
-use Rattle.share.specs.Share.{total, parts}
+use Rattle.share.specs.Share.{total}
 use Rattle.plan.specs.declared.record.Column.{Column}
 use Rattle.columns.specs.Wants.{Want}
-use Rattle.columns.specs.Columns.{leasts, free, over, spanned, fresh, raised_to, raise_one, held, with_parts, more_least, more_greatest, meet_minimum, meet_maximum, raise_span, each_of, spans, pass}
+use Rattle.columns.specs.Columns.{leasts, free, over, raised_to, raise_one, held, with_parts, more_least, more_greatest, meet_minimum, meet_maximum, raise_span, each_of, spans}
 use Rattle.columns.specs.Laws.{Served}
 
 -- as many columns, and none with a smaller least

@@ -1,11 +1,10 @@
 -- The laws of the offer.
-use Rattle.std.proofs.Common.{◌≡◌, ℕ, zero, suc, ◌+◌, ◌-◌, ◌*◌, ◌<◌, ◌≤◌, true, false, cond, leb, List, [], ◌∷◌, map, length, get_or, take, drop, sym, refl, ap, ◌∙◌, ap₂, inl, inr, le_of_eq, le_refl, mul_comm, zero-add, zero-mul, arith}
+use Rattle.std.proofs.Common.{◌≡◌, ℕ, zero, suc, ◌+◌, ◌-◌, ◌*◌, ◌<◌, ◌≤◌, cond, leb, List, [], ◌∷◌, length, get_or, take, sym, refl, ap, ◌∙◌, ap₂, inl, inr, le_of_eq, le_refl, mul_comm, zero-add, zero-mul, arith}
 use native.Mathlib.Nat.{sub_self}
 use Rattle.std.specs.List.{AllByRecursion as All}
 use Rattle.std.proofs.lemmas.List.{length-map}
 use Rattle.std.proofs.lemmas.Bool.{cases_lt, cond-true, le-leb, cond_both, leb-true, leb-false}
 use Rattle.share.specs.Share.{total, parts, stretch}
-use Rattle.share.specs.Laws.{Fair}
 use Rattle.share.proofs.Parts.{shares_are_fair}
 use Rattle.plan.specs.declared.record.Column.{Column}
 use Rattle.columns.specs.Columns.{leasts, greatests, spreads, sums, widths_of, least_width, greatest_width, around}

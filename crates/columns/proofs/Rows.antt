@@ -1,17 +1,17 @@
 -- The row rule is the column rule where no column is fixed, so that its laws hold of rows too.
-use Rattle.std.proofs.Common.{◌≡◌, ℕ, zero, suc, ◌+◌, ◌-◌, ◌*◌, ◌<◌, ◌≤◌, max, Bool, true, false, cond, eqb, List, [], ◌∷◌, ◌++◌, map, length, take, drop, replicate, sym, refl, ap, ◌∙◌, subst, ap₂, arith}
+use Rattle.std.proofs.Common.{◌≡◌, ℕ, zero, suc, ◌+◌, ◌-◌, ◌*◌, ◌≤◌, max, Bool, true, false, cond, eqb, List, [], ◌∷◌, ◌++◌, map, length, take, drop, replicate, sym, refl, ap, ◌∙◌, subst, ap₂, arith}
 use lib.ListN.{length-replicate}
 use Rattle.std.specs.List.{AllByRecursion as All}
-use Rattle.std.proofs.ByRecursion.{All-take, All-drop, All-weaker}
+use Rattle.std.proofs.ByRecursion.{All-take, All-weaker}
 use Rattle.std.proofs.lemmas.List.{take-map, drop-map, length-map}
-use Rattle.std.proofs.lemmas.Bool.{cond_both, cond-true, eq-eqb}
+use Rattle.std.proofs.lemmas.Bool.{cond-true}
 use Rattle.share.specs.Share.{total, parts, ones}
 use Rattle.share.proofs.Parts.{parts_length}
 use Rattle.plan.specs.declared.record.Column.{Column}
 use Rattle.columns.specs.Wants.{Want}
 use Rattle.plan.specs.declared.record.Sizing.TheVariants.{Free}
 use Rattle.plan.specs.Blank.{blank_column}
-use Rattle.columns.specs.Columns.{leasts, free, is_free, over, fresh, raised_to, raise_one, held, need, weight, even_weights, none_free, with_parts, more_least, more_greatest, meet_minimum, meet_maximum, raise_span, each_of, spans, pass, sums, raise_row, meet_rows, raise_rows, rows_of}
+use Rattle.columns.specs.Columns.{leasts, free, is_free, over, fresh, raised_to, raise_one, held, need, weight, even_weights, none_free, with_parts, more_least, meet_minimum, meet_maximum, raise_span, each_of, spans, pass, sums, raise_row, meet_rows, raise_rows, rows_of}
 use Rattle.columns.proofs.Grown.{Grown, none, more, grown_trans, grown_one, grown_span, grown_held, grown_each_of, grown_spans}
 use Rattle.columns.specs.Laws.{Fits, Served}
 use Rattle.columns.proofs.Served.{leasts_widened, minimums_are_met}

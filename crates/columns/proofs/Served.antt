@@ -1,14 +1,13 @@
 -- After the column pass every cell has its minimum.
-use Rattle.std.proofs.Common.{◌≡◌, ℕ, zero, suc, ◌+◌, ◌-◌, ◌*◌, ◌<◌, ◌≤◌, max, Bool, true, false, cond, eqb, ◌⊎◌, List, [], ◌∷◌, ◌++◌, map, length, take, drop, sym, refl, ap, ◌∙◌, subst, inl, inr, le_refl, zero-add, arith}
+use Rattle.std.proofs.Common.{◌≡◌, ℕ, zero, suc, ◌+◌, ◌-◌, ◌*◌, ◌<◌, ◌≤◌, true, cond, eqb, List, [], ◌∷◌, map, length, take, drop, sym, refl, ap, ◌∙◌, subst, inl, inr, arith}
 use Rattle.std.specs.List.{AllByRecursion as All}
-use Rattle.std.proofs.ByRecursion.{All-weaker}
 use Rattle.std.proofs.lemmas.List.{take_at, length-take-le, length-drop, length-map}
-use Rattle.std.proofs.lemmas.Bool.{cond_both, cond-true, cases_eq, cases_Bool, eq-eqb, eqb-false}
+use Rattle.std.proofs.lemmas.Bool.{cond-true, cases_eq, cases_Bool, eq-eqb, eqb-false}
 use Rattle.share.specs.Share.{total, parts}
 use Rattle.share.proofs.Parts.{parts_whole, parts_length}
 use Rattle.plan.specs.declared.record.Column.{Column}
 use Rattle.columns.specs.Wants.{Want}
-use Rattle.columns.specs.Columns.{leasts, free, over, spanned, fresh, raised_to, raise_one, held, need, free_weights, none_free, weight, even_weights, with_parts, more_least, more_greatest, meet_minimum, meet_maximum, raise_span, each_of, spans, pass}
+use Rattle.columns.specs.Columns.{leasts, over, spanned, fresh, raised_to, raise_one, held, need, free_weights, none_free, weight, even_weights, with_parts, more_least, more_greatest, meet_minimum, meet_maximum, raise_span, each_of, spans, pass}
 use Rattle.columns.specs.Laws.{Fits, Served}
 use Rattle.columns.proofs.Grown.{Grown, grown_trans, grown_length, grown_sizing, still_served, grown_one, grown_span, grown_held, grown_meet, grown_each_of, grown_spans}
 

@@ -1,13 +1,13 @@
 -- After the column pass a fixed column's least and greatest are one, and at least the fixed width.
-use Rattle.std.proofs.Common.{◌≡◌, ℕ, zero, suc, ◌+◌, ◌-◌, ◌*◌, ◌/◌, ◌<◌, ◌≤◌, max, Bool, true, false, cond, eqb, List, [], ◌∷◌, ◌++◌, map, length, take, drop, sym, refl, ap, ◌∙◌, subst, le_refl, add-zero, arith}
+use Rattle.std.proofs.Common.{◌≡◌, ℕ, zero, suc, ◌+◌, ◌-◌, ◌*◌, ◌/◌, max, false, cond, eqb, List, [], ◌∷◌, map, take, sym, refl, add-zero, arith}
 use native.Mathlib.Nat.{sub_self}
 use Rattle.std.specs.List.{AllByRecursion as All}
 use Rattle.std.proofs.ByRecursion.{All-append, All-take, All-drop}
 use Rattle.std.proofs.lemmas.Bool.{cond_both, cond-false, both_ways}
-use Rattle.share.specs.Share.{total, parts, parts_from}
+use Rattle.share.specs.Share.{parts_from}
 use Rattle.plan.specs.declared.record.Column.{Column}
 use Rattle.columns.specs.Wants.{Want}
-use Rattle.columns.specs.Columns.{free, over, held, need, greatests, free_weights, with_parts, more_least, more_greatest, meet_minimum, meet_maximum, raise_span, each_of, spans, pass}
+use Rattle.columns.specs.Columns.{free, over, held, free_weights, with_parts, more_least, more_greatest, meet_minimum, meet_maximum, raise_span, each_of, spans, pass}
 use Rattle.columns.specs.Laws.{Settled}
 
 abbrev Keeps : (List Column → List Column) → Type 0

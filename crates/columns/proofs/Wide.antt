@@ -1,5 +1,5 @@
 -- After the column pass every cell that spans a free column has its maximum.
-use Rattle.std.proofs.Common.{◌≡◌, ℕ, zero, suc, ◌+◌, ◌-◌, ◌*◌, ◌<◌, ◌≤◌, max, Bool, true, false, cond, eqb, ◌⊎◌, List, [], ◌∷◌, ◌++◌, map, length, take, drop, sym, refl, ap, ◌∙◌, subst, ap₂, inl, inr, le_refl, arith}
+use Rattle.std.proofs.Common.{◌≡◌, ℕ, zero, suc, ◌+◌, ◌-◌, ◌*◌, ◌<◌, ◌≤◌, cond, eqb, List, [], ◌∷◌, ◌++◌, map, length, take, drop, sym, refl, ap, ◌∙◌, subst, ap₂, inl, inr, le_refl, arith}
 use Rattle.std.specs.List.{AllByRecursion as All}
 use Rattle.std.proofs.ByRecursion.{All-take, All-weaker}
 use Rattle.std.proofs.lemmas.List.{take-append-drop, length-take-le, length-drop, length-map, take-map, drop-map}
@@ -10,7 +10,7 @@ use Rattle.plan.specs.declared.record.Column.{Column}
 use Rattle.columns.specs.Wants.{Want}
 use Rattle.columns.specs.Columns.{leasts, greatests, free, is_free, over, spanned, fresh, raised_to, raise_one, held, need, free_weights, even_weights, with_parts, more_least, more_greatest, meet_minimum, meet_maximum, raise_span, each_of, spans, pass}
 use Rattle.columns.specs.Laws.{Fits, Settled, Open, Wide}
-use Rattle.columns.proofs.Grown.{Grown, none, more, grown_trans, grown_take, grown_drop, grown_length, grown_one, grown_span, grown_held, grown_meet, grown_each_of, grown_spans}
+use Rattle.columns.proofs.Grown.{Grown, none, more, grown_trans, grown_take, grown_drop, grown_length, grown_one, grown_span, grown_held, grown_meet, grown_each_of}
 use Rattle.columns.proofs.Settled.{keeps_over, keeps_meet, keeps_each_of, held_settled}
 use Rattle.columns.proofs.Served.{spanned_over, all_of, all_both}
 

@@ -1,10 +1,10 @@
 -- A share over columns, one after another.
 -- Assumes nothing.
-use Rattle.std.proofs.Common.{◌≡◌, ℕ, zero, suc, ◌+◌, ◌-◌, ◌*◌, ◌/◌, ◌<◌, ◌≤◌, Bool, true, false, eqb, List, [], ◌∷◌, ◌++◌, map, length, get_or, take, drop, set, sym, refl, ap, ◌∙◌, le_refl, mul-le-mul_left, arith}
+use Rattle.std.proofs.Common.{◌≡◌, ℕ, ◌+◌, ◌-◌, ◌*◌, ◌/◌, ◌<◌, ◌≤◌, Bool, true, false, List, [], ◌∷◌, ◌++◌, map, length, get_or, take, drop, set, refl, ap, le_refl, mul-le-mul_left, arith}
 use native.Mathlib.Nat.{div-le_of_le-mul}
 use Rattle.std.proofs.lemmas.List.{at_drop_more, at_drop_all, take_more_set, drop-set-lt, append_assoc, append-nil, take_all}
 use Rattle.std.proofs.lemmas.Bool.{cond_both}
-use Rattle.share.specs.Share.{total, parts_from, parts, brings}
+use Rattle.share.specs.Share.{total, parts_from}
 use Rattle.plan.specs.declared.record.Column.{Column}
 use Rattle.plan.specs.Blank.{blank_column}
 use Rattle.columns.specs.Columns.{free, weight, with_parts, need}

@@ -1,6 +1,6 @@
 -- What the code does to the columns of one cell, and of all cells of a span, is what the pass says.
 -- Assumes nothing.
-use Rattle.std.proofs.Common.{◌≡◌, ℕ, zero, suc, ◌+◌, ◌-◌, ◌<◌, ◌≤◌, Bool, true, false, cond, ◌&&◌, eqb, ltb, leb, ◌⊎◌, List, [], ◌∷◌, ◌++◌, map, length, get_or, take, drop, set, Some, None, Option, sym, refl, ap, ◌∙◌, inl, inr, arith}
+use Rattle.std.proofs.Common.{◌≡◌, ℕ, zero, suc, ◌+◌, ◌<◌, ◌≤◌, Bool, true, false, cond, ◌&&◌, eqb, ltb, leb, List, [], ◌∷◌, map, length, get_or, take, drop, set, Some, None, Option, sym, refl, ap, ◌∙◌, inl, inr, arith}
 use borrow.Rule.Slice.PartMut.{put_mid}
 use Rattle.std.proofs.lemmas.List.{drop_all, drop_more}
 use Rattle.std.proofs.lemmas.Bool.{cond-true, cond-false, eq-eqb, cases_lt, lt-ltb, le-ltb, leb-true, and_left, and_right, and_parts, false≢true}
@@ -11,7 +11,7 @@ use Rattle.plan.specs.Steps.{from_to}
 use Rattle.columns.specs.Columns.{over, each_of}
 use Rattle.columns.specs.Wants.{Want}
 use Rattle.measure.specs.declared.ask.Ask.{Ask}
-use Rattle.measure.specs.Asks.{raised_by, lifted, want_of, asks_in, wants, asked, no_ask, step}
+use Rattle.measure.specs.Asks.{raised_by, lifted, want_of, asks_in, wants, asked, no_ask}
 
 -- one column alone is set
 pub one_set : (f : Column → Column) (cs : List Column) (c : Column) → length cs ≡ 1 → c ≡ f (get_or cs 0 blank_column) → set cs 0 c ≡ map f cs

@@ -1,7 +1,6 @@
 -- A span that is not marked does not occur, and its walk may be left out.
 -- Assumes nothing.
-use Rattle.std.proofs.Common.{◌≡◌, ℕ, ◌+◌, ◌<◌, ◌≤◌, Bool, true, false, cond, ◌&&◌, eqb, leb, ◌⊎◌, List, [], ◌∷◌, length, get_or, take, drop, set, sym, refl, ap, ◌∙◌, inl, inr, arith, get_or-set_other, get_or-set_same}
-use Rattle.std.specs.List.{AllByRecursion as All}
+use Rattle.std.proofs.Common.{◌≡◌, ℕ, ◌+◌, ◌<◌, ◌≤◌, Bool, true, false, ◌&&◌, eqb, leb, List, [], ◌∷◌, length, get_or, take, set, sym, refl, ap, ◌∙◌, inl, inr, get_or-set_other, get_or-set_same}
 use Rattle.std.proofs.ByRecursion.{All-more}
 use Rattle.std.proofs.lemmas.Bool.{cases_eq, cases_Bool, cond-false, ne_eqb, leb-true, and_parts, true≢false}
 use Rattle.plan.specs.declared.record.Cell.{Cell}
@@ -10,7 +9,7 @@ use Rattle.plan.specs.Steps.{from_to}
 use Rattle.columns.specs.Columns.{each_of}
 use Rattle.columns.specs.Wants.{Want}
 use Rattle.measure.specs.declared.ask.Ask.{Ask}
-use Rattle.measure.specs.Asks.{Absent, asks_in, wants, want_of}
+use Rattle.measure.specs.Asks.{Absent, asks_in, wants}
 
 -- spans without a mark are not among the cells
 abbrev pub Marked : ℕ → ℕ → List Bool → List Cell → Type 0

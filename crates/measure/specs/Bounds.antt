@@ -1,6 +1,6 @@
 -- The two bounds of a column's width, so that the pass over the leasts and that over the greatests are one.
-use Rattle.std.specs.Prelude.{ℕ, Bool, true, false, List, map}
-use Rattle.share.specs.Share.{total, parts}
+use Rattle.std.specs.Prelude.{ℕ, Bool, false, List, map}
+use Rattle.share.specs.Share.{parts}
 use Rattle.plan.specs.declared.record.Column.{Column}
 use Rattle.columns.specs.Columns.{more_least, more_greatest, need, weight, none_free, with_parts}
 use Rattle.measure.specs.declared.column.Bound.{Bound}

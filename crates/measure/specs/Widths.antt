@@ -1,5 +1,5 @@
 -- The widths that an offer gives, as the columns then hold them.
-use Rattle.std.specs.Prelude.{ℕ, ◌+◌, List, [], ◌∷◌}
+use Rattle.std.specs.Prelude.{ℕ, List, [], ◌∷◌}
 use Rattle.plan.specs.declared.record.Column.{Column}
 use Rattle.plan.specs.declared.record.Table.{Table}
 use Rattle.columns.specs.Columns.{widths_of}

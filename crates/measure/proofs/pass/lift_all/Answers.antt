@@ -1,9 +1,9 @@
-use Rattle.std.proofs.Common.{◌≡◌, ◌+◌, ◌-◌, length, get_or, drop, sym, ap, ◌∙◌, arith}
+use Rattle.std.proofs.Common.{◌+◌, ◌-◌, length, get_or, drop, sym, ap, ◌∙◌, arith}
 use Rattle.plan.specs.Blank.{blank_cell}
 use Rattle.measure.specs.Asks.{asked, lifted, step}
 use Rattle.measure.proofs.Lift.{one_more, rest_all, written, asked_fits}
 use Rattle.measure.proofs.pass.lift_all.Goals as goal
-use Rattle.measure.proofs.pass.lift_all.Goals.{in-Some, in-default}
+use Rattle.measure.proofs.pass.lift_all.Goals.{in-Some, in_default}
 
 pub loop-i-preserved : goal.loop-i-preserved
 loop-i-preserved c =
@@ -17,8 +17,8 @@ loop-i-preserved c =
           one_more (step a.spacing) a.t (length a.cols.now) a.s a.cells.now a.asks.now i c.loop-i.cols c.match-asked.cols _ _ (omega arith) (sym w.in-Some.is ∙ e)
           (w.cols-is ∙ written (lifted a.spacing w.in-Some.ask) k.column k.across (k.column + k.across - k.column) c.loop-i.cols w.lift.new.cols (omega (arith, inside)) (omega arith) w.lift.ensures)
           c.loop-i.invariant
-      | in-default w ↦
-          one_more (step a.spacing) a.t (length a.cols.now) a.s a.cells.now a.asks.now i c.loop-i.cols c.match-asked.cols _ _ (omega arith) (sym w.in-default.is ∙ e)
+      | in_default w ↦
+          one_more (step a.spacing) a.t (length a.cols.now) a.s a.cells.now a.asks.now i c.loop-i.cols c.match-asked.cols _ _ (omega arith) (sym w.in_default.is ∙ e)
           w.cols-is c.loop-i.invariant
     ]
 

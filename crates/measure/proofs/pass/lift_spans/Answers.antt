@@ -1,4 +1,4 @@
-use Rattle.std.proofs.Common.{◌≡◌, length, get_or, sym, ap, ◌∙◌, arith}
+use Rattle.std.proofs.Common.{length, sym, ap, ◌∙◌, arith}
 use Rattle.columns.specs.Columns.{each_of}
 use Rattle.measure.specs.Asks.{wants, step}
 use Rattle.measure.proofs.Marks.{each_absent}
@@ -16,11 +16,11 @@ loop-s-preserved c =
     elim c.if-marks-s.branch [
       | then-marks-s w ↦
           span_more f s xs c.loop-s.cols c.if-marks-s.cols _ (omega arith)
-          (w.cols-is ∙ w.lift-all.ensures ∙ ap (λ m. each_of s f (wants a.t m a.cells.now a.asks.now) c.loop-s.cols) c.loop-s.auto.cols)
+          (w.cols-is ∙ w.lift_all.ensures ∙ ap (λ m. each_of s f (wants a.t m a.cells.now a.asks.now) c.loop-s.cols) c.loop-s.auto.cols)
           c.loop-s.invariant
       | else-marks-s w ↦
           span_more f s xs c.loop-s.cols c.if-marks-s.cols _ (omega arith)
-          (w.cols-is ∙ sym (each_absent f a.t n s a.cells.now a.asks.now c.loop-s.cols (c.mark-spans-marks.ensures s w.if-marks-s.false)))
+          (w.cols-is ∙ sym (each_absent f a.t n s a.cells.now a.asks.now c.loop-s.cols (c.mark_spans-marks.ensures s w.if-marks-s.false)))
           c.loop-s.invariant
     ]
 

@@ -1,4 +1,4 @@
-use Rattle.std.proofs.Common.{◌≡◌, ◌-◌, ◌≤◌, length}
+use Rattle.std.proofs.Common.{◌≡◌, ◌-◌, length}
 use Rattle.columns.specs.Columns.{spans}
 use Rattle.measure.specs.Asks.{wants, step}
 use Rattle.measure.proofs.pass.lift_spans.Given as goal

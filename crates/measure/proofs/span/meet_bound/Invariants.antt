@@ -1,4 +1,4 @@
-use Rattle.std.proofs.Common.{◌≡◌, ℕ, ◌+◌, ◌≤◌, ◌++◌, map, take, drop}
+use Rattle.std.proofs.Common.{◌≡◌, ◌+◌, ◌≤◌, ◌++◌, map, take, drop}
 use Rattle.share.specs.Share.{total}
 use Rattle.columns.specs.Columns.{weight}
 use Rattle.measure.specs.Bounds.{bound_of, more}

@@ -2,8 +2,8 @@ use Rattle.std.proofs.Common.{◌-◌, arith}
 use Rattle.measure.proofs.Deal.{sum_more, sum_none}
 use Rattle.measure.proofs.width.sum_spreads.Goals as goal
 
-pub overflow-add-sum : goal.overflow-add-sum
-overflow-add-sum c = omega arith
+pub overflow_add-sum : goal.overflow_add-sum
+overflow_add-sum c = omega arith
 
 pub loop-c-preserved : goal.loop-c-preserved
 loop-c-preserved c = omega (arith, sum_more (λ d. d.greatest - d.least) c.args.cols.now c.loop-c.c-index (omega arith))
