@@ -8,7 +8,7 @@ use Rattle.plan.specs.Done.{Changed, Grew, by_record}
 use Rattle.plan.specs.Steps.{Added, place_lists, nest_lists}
 use Rattle.plan.specs.Stock.{Stock, held}
 use Rattle.runs.specs.State.{State, state_of}
-use Rattle.runs.specs.Calls.{Call, Place, Nest, Done, Number, Outcome, changed, added, wanted, Reached}
+use Rattle.runs.specs.Calls.{Call, Place, Nest, Done, Number, changed, added, wanted, Reached}
 use Rattle.runs.proofs.Planned.{reached_by}
 use Rattle.runs.proofs.Same.{tied_reached, place_same, nest_same}
 

@@ -1,5 +1,5 @@
 -- A sheet as a state, and what it is for a call to do what is wanted of it.
-use Rattle.std.specs.Prelude.{◌≡◌, ℕ, List, Ok, Err, Result}
+use Rattle.std.specs.Prelude.{◌≡◌, ℕ, Ok, Err, Result}
 use Rattle.fault.specs.declared.Fault.{Fault}
 use Rattle.runs.specs.State.{State, state_of}
 use Rattle.runs.specs.Calls.{Answer, Done, Number, Outcome}

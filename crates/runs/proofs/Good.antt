@@ -1,9 +1,8 @@
 -- After every run the plan of the sheet is good.
-use Rattle.std.proofs.Common.{◌≡◌, ℕ, ◌+◌, ◌-◌, ◌<◌, ◌≤◌, min, max, Bool, true, false, cond, ◌&&◌, ◌||◌, eqb, ltb, leb, ◌⊎◌, List, [], ◌∷◌, ◌++◌, length, get_or, set, Some, None, Ok, Err, Option, Result, sym, refl, ap, ◌∙◌, subst, inl, inr, arith, length-set}
-use mathlib.Core.Logic.{∥∥₁_elim, ∥∥₁_map}
+use Rattle.std.proofs.Common.{◌≡◌, ℕ, ◌+◌, ◌<◌, ◌≤◌, Bool, true, false, ◌&&◌, ◌||◌, eqb, ltb, leb, List, [], ◌∷◌, ◌++◌, length, get_or, set, Some, None, Ok, Err, Option, Result, sym, refl, ◌∙◌, subst, arith, length-set}
 use Rattle.std.specs.List.{slice_get}
 use Rattle.std.proofs.lemmas.List.{length_push}
-use Rattle.std.proofs.lemmas.Bool.{cond_both, and_parts, or_parts, leb-true, leb-false, ltb-true, eqb-true}
+use Rattle.std.proofs.lemmas.Bool.{cond_both, and_parts, or_parts, leb-false, ltb-true, eqb-true}
 use Rattle.std.proofs.lemmas.Bool.Decides.{nat_tests}
 use Rattle.fault.specs.declared.Fault.{Fault}
 use Rattle.plan.specs.declared.record.Cell.{Cell}
@@ -11,14 +10,13 @@ use Rattle.plan.specs.declared.record.Table.{Table}
 use Rattle.plan.specs.declared.record.Holds.TheVariants.{Content, Inner}
 use Rattle.plan.specs.Blank.{blank_column, blank_table}
 use Rattle.plan.specs.Stock.{Stock, full}
-use Rattle.plan.specs.Steps.{Added, from_to, table_range, span_range, columns_of, current_row, start_tables, row_at, row_tables, width_at, width_tables, spot_to, column_for, sized, new_cell, with_row, with_sizing, with_cell, place_in, place_at, place_lists, nest_in, nest_at, nest_lists}
+use Rattle.plan.specs.Steps.{table_range, span_range, columns_of, current_row, row_at, width_at, spot_to, column_for, sized, new_cell, with_row, with_sizing, with_cell, place_in, place_at, nest_in, nest_at}
 use Rattle.plan.specs.Taken.{spot}
 use Rattle.plan.proofs.Spots.{spot_found}
-use Rattle.runs.specs.Cells.{free_in, by_cells}
+use Rattle.runs.specs.Cells.{by_cells}
 use Rattle.runs.specs.State.{State, empty}
-use Rattle.runs.specs.Calls.{Call, Start, Row, Place, Nest, Width, Outcome, changed, added, wanted, after_of, next, run, Reached}
-use Rattle.runs.specs.Laws.{Able}
-use Rattle.runs.proofs.Lists.{nth_below, set_push}
+use Rattle.runs.specs.Calls.{Call, Start, Row, Place, Nest, Width, changed, added, after_of, next, run, Reached}
+use Rattle.runs.proofs.Lists.{nth_below}
 use Rattle.runs.proofs.Standing.{Standing, standing_none, standing_table, Kept, standing_kept, Fitting, standing_cell}
 use Rattle.runs.proofs.Nested.{Nested, nested_none, nested_first, nested_content, nested_inner}
 

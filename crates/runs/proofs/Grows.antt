@@ -1,16 +1,16 @@
 -- What was made keeps its number: calls only add cells and tables, and change neither where a cell stands nor a table's shape.
-use Rattle.std.proofs.Common.{◌≡◌, ℕ, zero, suc, ◌<◌, Bool, true, false, ◌⊎◌, List, [], ◌∷◌, ◌++◌, length, set, Some, None, Ok, Err, Result, sym, refl, ap, ◌∙◌, subst, inl, inr, arith}
+use Rattle.std.proofs.Common.{◌≡◌, ℕ, Bool, false, List, [], ◌∷◌, ◌++◌, set, Some, Ok, Err, Result, sym, refl, ap, ◌∙◌, subst, inl, inr}
 use Rattle.std.specs.List.{slice_get}
 use Rattle.std.proofs.lemmas.Bool.{cases_eq}
 use Rattle.fault.specs.declared.Fault.{Fault}
 use Rattle.plan.specs.declared.record.Cell.{Cell}
 use Rattle.plan.specs.declared.record.Table.{Table}
 use Rattle.plan.specs.Blank.{blank_table}
-use Rattle.plan.specs.Stock.{Stock, with_new, with_item}
-use Rattle.plan.specs.Steps.{Added, start_tables, row_tables, width_tables, place_lists, nest_lists, new_cell, with_row, with_sizing, with_cell}
+use Rattle.plan.specs.Stock.{Stock}
+use Rattle.plan.specs.Steps.{Added, start_tables, row_tables, width_tables, place_lists, nest_lists, with_row, with_sizing, with_cell}
 use Rattle.runs.specs.Cells.{by_cells}
 use Rattle.runs.specs.State.{State}
-use Rattle.runs.specs.Calls.{Call, Start, Row, Place, Nest, Width, Outcome, changed, added, wanted, after_of, next, run}
+use Rattle.runs.specs.Calls.{Call, Start, Row, Place, Nest, Width, changed, added, after_of, next, run}
 use Rattle.runs.proofs.Lists.{nth_same, nth_old, nth_set_same, nth_set_other}
 use Rattle.runs.proofs.Accepted.{start_told, row_told, width_told, place_told, nest_told}
 

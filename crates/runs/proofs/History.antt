@@ -1,11 +1,10 @@
 -- What a run did is what its sheet tells.
-use Rattle.std.proofs.Common.{◌≡◌, ℕ, zero, suc, ◌+◌, ◌<◌, Bool, true, false, cond, ◌&&◌, eqb, ◌⊎◌, List, [], ◌∷◌, ◌++◌, length, drop, set, is_ok, Some, None, Ok, Err, Option, Result, sym, refl, ap, ◌∙◌, subst, inl, inr, arith, length-set, get_or-set_other, get_or-set_same}
+use Rattle.std.proofs.Common.{◌≡◌, ℕ, List, [], ◌∷◌, ◌++◌, length, set, Some, Ok, Err, Result, sym, refl, ap, ◌∙◌, subst, arith, length-set}
 use Rattle.std.specs.List.{slice_get}
 use Rattle.fault.specs.declared.Fault.{Fault}
 use Rattle.plan.specs.declared.record.Cell.{Cell}
 use Rattle.plan.specs.declared.record.Holds.{Holds}
 use Rattle.plan.specs.declared.record.Holds.TheVariants.{Content, Inner}
-use Rattle.plan.specs.declared.record.Sizing.{Sizing}
 use Rattle.plan.specs.declared.record.Table.{Table}
 use Rattle.plan.specs.Blank.{blank_table}
 use Rattle.plan.specs.Stock.{Stock, with_new, with_item}
@@ -17,10 +16,9 @@ use Rattle.runs.specs.History.{Stands, Shaped, Hangs, Told}
 use Rattle.runs.proofs.Planned.{planned}
 use Rattle.runs.proofs.Sized.{sized_run}
 use Rattle.runs.proofs.Lists.{nth_same, nth_last}
-use Rattle.runs.proofs.Accepted.{ok_same, Adds, place_told, nest_told}
+use Rattle.runs.proofs.Accepted.{ok_same, place_told, nest_told}
 use Rattle.runs.proofs.Good.{Sound, sound_run}
-use Rattle.runs.proofs.Nested.{Nested}
-use Rattle.runs.proofs.Grows.{Alike, Shape, Like, Grows, grows_run}
+use Rattle.runs.proofs.Grows.{Grows, grows_run}
 
 run_append : (s : State) (before after : List Call) (c : Call) → run s (before ++ c ∷ after) ≡ run (next (run s before) c) after
 run_append s [] after c = refl

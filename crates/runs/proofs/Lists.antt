@@ -1,5 +1,5 @@
 -- Items of lists by number, after one more item and after a change of one.
-use Rattle.std.proofs.Common.{◌≡◌, ℕ, zero, suc, ◌<◌, ◌≤◌, ◌⊎◌, List, [], ◌∷◌, ◌++◌, length, take, set, Some, None, sym, refl, ap, ◌∙◌, inl, inr, arith}
+use Rattle.std.proofs.Common.{◌≡◌, ℕ, zero, suc, ◌<◌, ◌⊎◌, List, [], ◌∷◌, ◌++◌, length, take, set, Some, refl, ap, inl, inr, arith}
 use Rattle.std.specs.List.{slice_get}
 
 module _ {A : Type 0} where

@@ -1,9 +1,8 @@
 -- Which cell holds which table: what each change of the lists keeps.
-use Rattle.std.proofs.Common.{◌≡◌, ℕ, ◌+◌, ◌<◌, ◌≤◌, ◌⊎◌, List, [], ◌∷◌, ◌++◌, length, Some, None, sym, refl, ap, ◌∙◌, subst, inl, inr, arith}
+use Rattle.std.proofs.Common.{◌≡◌, ℕ, ◌+◌, ◌<◌, List, [], ◌∷◌, ◌++◌, length, Some, sym, ap, ◌∙◌, subst, inl, inr, arith}
 use Rattle.std.specs.List.{slice_get}
 use Rattle.std.proofs.lemmas.Bool.{cases_lt}
 use Rattle.plan.specs.declared.record.Cell.{Cell}
-use Rattle.plan.specs.declared.record.Holds.{Holds}
 use Rattle.plan.specs.declared.record.Holds.TheVariants.{Content, Inner}
 use Rattle.runs.proofs.Lists.{nth_below, nth_push, nth_old, nth_last}
 

@@ -1,18 +1,15 @@
 -- The laws of a plan, of every state that a run reached.
-use Rattle.std.proofs.Common.{◌≡◌, ℕ, ◌<◌, ◌≤◌, Bool, true, false, List, [], ◌∷◌, ◌++◌, length, Some, Ok, Err, Result, sym, refl, ap, ◌∙◌, subst, arith}
+use Rattle.std.proofs.Common.{◌≡◌, List, [], ◌∷◌, ◌++◌, Ok, refl, ap, ◌∙◌, subst, arith}
 use mathlib.Core.HLevel.{⊥_prop}
 use mathlib.Core.Logic.{∥∥₁_elim, ∥∥₁_map, ∥∥₁_prop}
 use denote.Struct.Props.{props}
-use Rattle.std.specs.List.{slice_get}
-use Rattle.fault.specs.declared.Fault.{Fault}
 use Rattle.plan.specs.declared.record.Cell.{Cell}
 use Rattle.plan.specs.declared.record.Table.{Table}
-use Rattle.plan.specs.declared.record.Holds.TheVariants.{Inner}
 use Rattle.runs.specs.State.{State, empty}
 use Rattle.runs.specs.Calls.{Call, Outcome, wanted, after_of, next, run, Reached}
-use Rattle.runs.specs.Laws.{Apart, CameLowest, Within, Able, Held, Planned}
+use Rattle.runs.specs.Laws.{Planned}
 use Rattle.runs.proofs.Standing.{standing_apart}
-use Rattle.runs.proofs.Good.{Good, Sound, sound_reached}
+use Rattle.runs.proofs.Good.{Sound, sound_reached}
 
 pub planned : (s : State) → Sound s → Planned s
 planned s g = record {

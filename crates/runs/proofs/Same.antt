@@ -1,17 +1,15 @@
 -- Told by the code's record of taken columns or by the cells, a cell goes to the same place.
-use Rattle.std.proofs.Common.{◌≡◌, ℕ, ◌+◌, ◌<◌, Bool, cond, ◌&&◌, eqb, List, Some, None, Ok, Err, Option, Result, sym, refl, ap, ◌∙◌, arith}
+use Rattle.std.proofs.Common.{◌≡◌, ℕ, ◌+◌, Bool, cond, ◌&&◌, eqb, Some, None, Err, Option, refl, ap, arith}
 use mathlib.Core.Logic.{∥∥₁_elim}
 use denote.Struct.Props.{props}
 use Rattle.std.specs.List.{slice_get}
 use Rattle.fault.specs.Numbers.{fault}
-use Rattle.fault.specs.declared.Fault.{Fault}
 use Rattle.fault.specs.declared.Reason.TheVariants.{NoRow, OutOfRange}
 use Rattle.plan.specs.declared.record.Table.{Table}
 use Rattle.plan.specs.Done.{by_record}
 use Rattle.plan.specs.Steps.{columns_of, current_row, spot_to, column_for, span_range, table_range, place_in, place_at, place_lists, nest_in, nest_at, nest_lists}
-use Rattle.plan.specs.Taken.{open_at}
 use Rattle.plan.proofs.Spots.{spot_same}
-use Rattle.runs.specs.Cells.{free_in, by_cells}
+use Rattle.runs.specs.Cells.{by_cells}
 use Rattle.runs.specs.State.{State}
 use Rattle.runs.specs.Calls.{Reached}
 use Rattle.runs.specs.Laws.{RecordTied}

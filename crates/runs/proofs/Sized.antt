@@ -1,17 +1,16 @@
 -- Columns are as last set.
-use Rattle.std.proofs.Common.{◌≡◌, ℕ, zero, suc, ◌<◌, Bool, true, false, cond, ◌&&◌, eqb, ◌⊎◌, List, [], ◌∷◌, ◌++◌, length, get_or, set, replicate, is_ok, Some, None, Ok, Err, Result, sym, refl, ap, ◌∙◌, subst, inl, inr, arith, get_or-set_other, get_or-set_same}
+use Rattle.std.proofs.Common.{◌≡◌, ℕ, zero, suc, ◌<◌, Bool, false, cond, ◌&&◌, eqb, List, [], ◌∷◌, ◌++◌, length, get_or, set, replicate, is_ok, Some, Ok, Err, Result, sym, refl, ap, ◌∙◌, inl, inr, arith, get_or-set_other, get_or-set_same}
 use Rattle.std.specs.List.{slice_get}
 use Rattle.std.proofs.lemmas.Bool.{cases_eq, eq-eqb, ne_eqb}
 use Rattle.fault.specs.declared.Fault.{Fault}
 use Rattle.plan.specs.declared.record.Column.{Column}
-use Rattle.plan.specs.declared.record.Sizing.{Sizing}
 use Rattle.plan.specs.declared.record.Table.{Table}
 use Rattle.plan.specs.Blank.{blank_column, blank_table}
 use Rattle.plan.specs.Stock.{Stock, with_new, with_item}
 use Rattle.plan.specs.Steps.{Added, start_tables, row_tables, width_tables, place_lists, nest_lists, sizing_of, sized, with_row, with_sizing, with_cell}
 use Rattle.runs.specs.Cells.{by_cells}
 use Rattle.runs.specs.State.{State}
-use Rattle.runs.specs.Calls.{Call, Start, Row, Place, Nest, Width, changed, added, wanted, after_of, next, run}
+use Rattle.runs.specs.Calls.{Call, Start, Row, Place, Nest, Width, changed, added, after_of, next, run}
 use Rattle.runs.specs.History.{sizing_in, sizing_at, set_by, last_set}
 use Rattle.runs.proofs.Lists.{nth_set_same, nth_set_other}
 use Rattle.runs.proofs.Accepted.{start_told, row_told, width_told, place_told, nest_told}

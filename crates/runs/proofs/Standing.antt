@@ -1,21 +1,21 @@
 -- Where cells stand: what each change of the lists keeps.
-use Rattle.std.proofs.Common.{◌≡◌, ℕ, ◌+◌, ◌-◌, ◌<◌, ◌≤◌, min, max, Bool, true, false, not, ◌&&◌, eqb, leb, ◌⊎◌, List, [], ◌∷◌, ◌++◌, length, get_or, take, set, replicate, Some, None, sym, refl, ap, ◌∙◌, subst, inl, inr, arith, lit≤, length-set}
-use lib.ListN.{length-replicate, get_or-replicate}
+use Rattle.std.proofs.Common.{◌≡◌, ℕ, ◌+◌, ◌<◌, ◌≤◌, true, false, eqb, List, [], ◌∷◌, ◌++◌, length, get_or, take, set, replicate, Some, sym, refl, ap, ◌∙◌, subst, inl, inr, arith, length-set}
+use lib.ListN.{get_or-replicate}
 use lib.Seq.{take-append-le}
 use Rattle.std.specs.List.{slice_get}
 use Rattle.std.proofs.lemmas.List.{length_push, take_all}
-use Rattle.std.proofs.lemmas.Bool.{and_left, and_from, and_parts, cases_lt, cases_eq, cases_order, le-leb, lt-leb, leb-true, ne_eqb, eq-eqb, both_ways}
+use Rattle.std.proofs.lemmas.Bool.{cases_lt, cases_order, le-leb, leb-true, ne_eqb, eq-eqb, both_ways}
 use Rattle.std.proofs.lemmas.Bool.Decides.{nat_tests}
 use Rattle.plan.specs.declared.record.Cell.{Cell}
 use Rattle.plan.specs.declared.record.Holds.{Holds}
 use Rattle.plan.specs.declared.record.Table.{Table}
 use Rattle.plan.specs.Blank.{blank_table}
 use Rattle.plan.specs.Steps.{columns_of, current_row, new_cell, with_cell}
-use Rattle.plan.specs.Taken.{open_at, raised}
+use Rattle.plan.specs.Taken.{open_at}
 use Rattle.plan.proofs.Raised.{length_raised, raised_in, raised_out}
 use Rattle.runs.specs.Cells.{takes, free_in}
 use Rattle.runs.specs.Laws.{Apart, CameLowest, Within, Able}
-use Rattle.runs.proofs.Lists.{nth_below, nth_same, nth_push, nth_set, nth_take}
+use Rattle.runs.proofs.Lists.{nth_below, nth_push, nth_set, nth_take}
 use Rattle.runs.proofs.Free.{free_push, not_free, all_free}
 
 -- the record of taken columns tells of the current row and all rows below what the cells tell

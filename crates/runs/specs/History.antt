@@ -1,5 +1,5 @@
 -- What a run did, told by its calls: what was made keeps its number, and columns are as last set.
-use Rattle.std.specs.Prelude.{◌≡◌, ℕ, ◌<◌, Bool, cond, ◌&&◌, List, [], ◌∷◌, ◌++◌, is_ok, Some, None, Ok, Option, ◌==◌, slice_index_or}
+use Rattle.std.specs.Prelude.{◌≡◌, ℕ, cond, ◌&&◌, List, [], ◌∷◌, ◌++◌, is_ok, Some, None, Ok, Option, ◌==◌, slice_index_or}
 use Rattle.std.specs.List.{slice_get}
 use Rattle.plan.specs.declared.record.Cell.{Cell}
 use Rattle.plan.specs.declared.record.Holds.{Holds}
@@ -10,7 +10,7 @@ use Rattle.plan.specs.declared.record.Table.{Table}
 use Rattle.plan.specs.Blank.{blank_column}
 use Rattle.plan.specs.Steps.{sizing_of}
 use Rattle.runs.specs.State.{State}
-use Rattle.runs.specs.Calls.{Call, Start, Row, Place, Nest, Width, Answer, Number, Outcome, wanted, next, run}
+use Rattle.runs.specs.Calls.{Call, Start, Row, Place, Nest, Width, Number, wanted, next, run}
 use Rattle.runs.specs.Laws.{Planned}
 
 -- cell i is in table t, spans so many columns and rows, and holds that

@@ -1,4 +1,4 @@
-use Rattle.std.proofs.Common.{◌≡◌, false, sym, refl, ap, ◌∙◌}
+use Rattle.std.proofs.Common.{false, refl, ap}
 use Rattle.std.proofs.lemmas.Result.{err_from_is_err_and}
 use Rattle.runs.specs.Calls.{Width, changed}
 use Rattle.engine.specs.View.{state}
@@ -6,18 +6,18 @@ use Rattle.engine.proofs.Same.{same_sheet}
 use Rattle.engine.proofs.Steps.{reached_changed, reached_same}
 use Rattle.engine.proofs.hold.Sheet.width.Goals as goal
 
-pub invariant-of-self : goal.invariant-of-self
-invariant-of-self c =
+pub invariant_of-self : goal.invariant_of-self
+invariant_of-self c =
     let m = c.args.self.now in
-    (reached_same m.tables c.fix-width.new.tables m.cells m.cells m.laid c.in-err-fix-width.ensures.1 refl m.reached, tt)
+    record { reached = reached_same m.tables c.fix_width.new.tables m.cells m.cells m.laid c.in_err-fix_width.ensures.1 refl m.reached }
 
-pub returns-in-err-fix-width : goal.returns-in-err-fix-width
-returns-in-err-fix-width c =
-    let p = err_from_is_err_and c.from-residual.result c.from-residual.ensures.1 in
-    let d = c.in-err-fix-width.ensures in
+pub returns-in_err-fix_width : goal.returns-in_err-fix_width
+returns-in_err-fix_width c =
+    let p = err_from_is_err_and c.from_residual.result c.from_residual.ensures.1 in
+    let d = c.in_err-fix_width.ensures in
     rw (p.1, p.2) (ap (changed (state c.args.self.now) false) d.0, same_sheet _ _ d.1 refl refl)
 
-pub invariant-of-self-2 : goal.invariant-of-self-2
-invariant-of-self-2 c =
+pub invariant_of-self-2 : goal.invariant_of-self-2
+invariant_of-self-2 c =
     let m = c.args.self.now in
-    (reached_changed m.tables c.fix-width.new.tables m.cells m.laid false (Width c.args.t c.args.j c.args.width) _ refl c.in-ok-fix-width.ensures m.reached, tt)
+    record { reached = reached_changed m.tables c.fix_width.new.tables m.cells m.laid false (Width c.args.t c.args.j c.args.width) _ refl c.in_ok-fix_width.ensures m.reached }
