@@ -8,7 +8,6 @@ use Rattle.share.specs.Share.{parts}
 use Rattle.columns.specs.Columns.{leasts, columns_of, least_width, greatest_width, widths_of, overflow_of}
 use Rattle.columns.specs.Wants.{Want}
 use Rattle.text.specs.Places.{contents}
-use Rattle.text.specs.declared.place.Place.{Place}
 
 -- numbers that the rules state for an example, and the same as the definitions reckon them
 pub record Figure : Type 0 where
