@@ -16,7 +16,7 @@ pub(crate) struct Margin {
 }
 
 pub(crate) fn widths_in<S: Shelf>(below: &S, margin: Margin, k: u16) -> Result<(u16, u16), Fault>
-    ensures { result ≡ widths_answer (around margin (meaning below.now)) k }
+    ensures { result ≡ widths_answer (around margin (S.meaning below.now)) k }
 {
     let both = 2 * margin.size as u16;
     let (least, most) = below.widths(k)?;
@@ -25,7 +25,7 @@ pub(crate) fn widths_in<S: Shelf>(below: &S, margin: Margin, k: u16) -> Result<(
 
 // The height of the content inside the margin.
 fn inner_height<S: Shelf>(below: &S, margin: Margin, k: u16, w: u16) -> Result<u16, Fault>
-    ensures { result ≡ inner_answer margin (meaning below.now) k w }
+    ensures { result ≡ inner_answer margin (S.meaning below.now) k w }
 {
     let both = 2 * margin.size as u16;
     let (least, _) = below.widths(k)?;
@@ -37,7 +37,7 @@ fn inner_height<S: Shelf>(below: &S, margin: Margin, k: u16, w: u16) -> Result<u
 }
 
 pub(crate) fn height_in<S: Shelf>(below: &S, margin: Margin, k: u16, w: u16) -> Result<u16, Fault>
-    ensures { result ≡ height_answer (around margin (meaning below.now)) k w }
+    ensures { result ≡ height_answer (around margin (S.meaning below.now)) k w }
 {
     let both = 2 * margin.size as u16;
     let h = inner_height(below, margin, k, w)?;
@@ -52,8 +52,8 @@ pub(crate) fn line_in<S: Shelf>(
     r: u16,
     out: &mut [u8],
 ) -> Result<(), Fault>
-    ensures answer { result ≡ line_answer (around margin (meaning below.now)) k w r (length out.old) }
-    ensures after { out.new ≡ written (around margin (meaning below.now)) k w r result out.old }
+    ensures answer { result ≡ line_answer (around margin (S.meaning below.now)) k w r (length out.old) }
+    ensures after { out.new ≡ written (around margin (S.meaning below.now)) k w r result out.old }
 {
     let n = margin.size as u16;
     let h = inner_height(below, margin, k, w)?;

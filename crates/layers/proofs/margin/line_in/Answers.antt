@@ -20,6 +20,6 @@ returns g c = search (rules, middle_line)
 not_refused : (g : Margin) (m : Meaning) (k w r h n : ℕ) (f : Fault) → Ok h ≡ inner_answer g m k w → r < h → n ≡ w - 2 * g.size → Err f ≡ line_answer m k (w - 2 * g.size) r n → ⊥
 not_refused g m k w r h n f inner low long e = let z : ◌≡◌ {A = ℕ} 0 1 = grind (arith, nat_tests) in omega arith
 
-pub returns-in-err-line : goal.returns-in-err-line
-returns-in-err-line g c =
-    elim (not_refused c.args.margin (g.S.Shelf.meaning c.args.below.now) c.args.k c.args.w (c.args.r - c.args.margin.size) c.in-ok-h.h _ _ c.in-ok-h.ensures (omega arith) (search (rules, places)) c.in-err-line.ensures.answer) [ ]
+pub returns-in_err-line : goal.returns-in_err-line
+returns-in_err-line g c =
+    elim (not_refused c.args.margin (g.S.Shelf.meaning c.args.below.now) c.args.k c.args.w (c.args.r - c.args.margin.size) c.in_ok-h.h _ _ c.in_ok-h.ensures (omega arith) (search (rules, places)) c.in_err-line.ensures.answer) [ ]
