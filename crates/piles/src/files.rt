@@ -9,11 +9,16 @@ use letters::Kind;
 use list::List;
 use shelf::Shelf;
 use std::process::Abort;
+use std::test::Fail;
 use text::place::Place;
 use text::shelves::{BlockShelf, TextShelf};
 
 // A file that is one content, at a width: its bytes, its least and greatest width, the width, and its page there.
 pub(crate) type Case<'a> = (&'a [u8], u16, u16, u16, &'a [u8]);
+
+pub(crate) fn case<'a>(file: &'a [u8], least: u16, most: u16, w: u16, page: &'a [u8]) -> Case<'a> {
+    (file, least, most, w, page)
+}
 
 // What stands at some places of a file, which a pile of layers is put on.
 #[derive(Clone, Copy)]
@@ -125,7 +130,7 @@ pub(crate) fn check_neither(rt: &impl Abort, files: &[&[u8]]) -> Result<(), Fail
             Pile::Bare,
             file,
             &[(0, file.len()), (0, 0)],
-            &[(2, 1, 1, 1, b" "), (3, 1, 1, 1, b" ")],
+            &[content(2, 1, 1, 1, b" "), content(3, 1, 1, 1, b" ")],
         )?;
     }
     Ok(())

@@ -1,6 +1,8 @@
 // Texts and blocks joined, under layers and over them.
 use crate::files::*;
+use crate::pages::*;
 use crate::pile::*;
+use std::test::Fail;
 
 // Three places of this file, each both a text and a block, but for the third, which has a tab and is no block, and a fourth, which is
 // neither.
@@ -17,17 +19,17 @@ fn joined_alone(rt: HostRuntime) -> Result<(), Fail> {
         FILE,
         &ENDS,
         &[
-            (0, 2, 7, 2, b"a bb<d"),
-            (0, 2, 7, 4, b"a bb<d  "),
-            (0, 2, 7, 7, b"a bb <d"),
-            (1, 4, 4, 4, b"a bb<d  "),
-            (1, 4, 4, 5, b"a bb <d   "),
-            (2, 2, 2, 2, b"<d"),
-            (2, 2, 2, 3, b"<d "),
-            (3, 3, 3, 3, b"<d "),
-            (3, 3, 3, 4, b"<d  "),
-            (4, 1, 3, 1, b"dx"),
-            (4, 1, 3, 3, b"d x"),
+            content(0, 2, 7, 2, b"a bb<d"),
+            content(0, 2, 7, 4, b"a bb<d  "),
+            content(0, 2, 7, 7, b"a bb <d"),
+            content(1, 4, 4, 4, b"a bb<d  "),
+            content(1, 4, 4, 5, b"a bb <d   "),
+            content(2, 2, 2, 2, b"<d"),
+            content(2, 2, 2, 3, b"<d "),
+            content(3, 3, 3, 3, b"<d "),
+            content(3, 3, 3, 4, b"<d  "),
+            content(4, 1, 3, 1, b"dx"),
+            content(4, 1, 3, 3, b"d x"),
         ],
     )
 }
@@ -73,11 +75,11 @@ fn frame_over_padding_over_joined(rt: HostRuntime) -> Result<(), Fail> {
         FILE,
         &ENDS,
         &[
-            (0, 6, 11, 11, FIRST),
-            (1, 8, 8, 9, SECOND),
-            (2, 6, 6, 6, THIRD),
-            (3, 7, 7, 7, FOURTH),
-            (4, 5, 7, 5, FIFTH),
+            content(0, 6, 11, 11, FIRST),
+            content(1, 8, 8, 9, SECOND),
+            content(2, 6, 6, 6, THIRD),
+            content(3, 7, 7, 7, FOURTH),
+            content(4, 5, 7, 5, FIFTH),
         ],
     )
 }
@@ -124,11 +126,11 @@ fn frame_over_joined_layers(rt: HostRuntime) -> Result<(), Fail> {
         FILE,
         &ENDS,
         &[
-            (0, 6, 11, 6, FIRST),
-            (1, 8, 8, 8, SECOND),
-            (2, 6, 6, 6, THIRD),
-            (3, 7, 7, 9, FOURTH),
-            (4, 5, 7, 7, FIFTH),
+            content(0, 6, 11, 6, FIRST),
+            content(1, 8, 8, 8, SECOND),
+            content(2, 6, 6, 6, THIRD),
+            content(3, 7, 7, 9, FOURTH),
+            content(4, 5, 7, 7, FIFTH),
         ],
     )
 }

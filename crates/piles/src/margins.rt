@@ -2,6 +2,7 @@
 use crate::files::*;
 use crate::pile::*;
 use letters::Kind;
+use std::test::Fail;
 
 #[test]
 fn padding_0(rt: HostRuntime) -> Result<(), Fail> {
@@ -10,9 +11,9 @@ fn padding_0(rt: HostRuntime) -> Result<(), Fail> {
         Kind::Text,
         Pile::Padding(0),
         &[
-            (b"a bb ccc", 3, 8, 3, b"a  bb ccc"),
-            (b"a bb ccc", 3, 8, 4, b"a bbccc "),
-            (b"a bb ccc", 3, 8, 8, b"a bb ccc"),
+            case(b"a bb ccc", 3, 8, 3, b"a  bb ccc"),
+            case(b"a bb ccc", 3, 8, 4, b"a bbccc "),
+            case(b"a bb ccc", 3, 8, 8, b"a bb ccc"),
         ],
     )?;
     check_each(
@@ -20,8 +21,8 @@ fn padding_0(rt: HostRuntime) -> Result<(), Fail> {
         Kind::Block,
         Pile::Padding(0),
         &[
-            (b"a bb\nccc", 4, 4, 4, b"a bbccc "),
-            (b"a bb\nccc", 4, 4, 6, b"a bb  ccc   "),
+            case(b"a bb\nccc", 4, 4, 4, b"a bbccc "),
+            case(b"a bb\nccc", 4, 4, 6, b"a bb  ccc   "),
         ],
     )
 }
@@ -48,10 +49,10 @@ fn padding_1_over_text(rt: HostRuntime) -> Result<(), Fail> {
         Kind::Text,
         Pile::Padding(1),
         &[
-            (b"a bb ccc", 5, 10, 5, NARROW),
-            (b"a bb ccc", 5, 10, 7, BETWEEN),
-            (b"a bb ccc", 5, 10, 11, WIDE),
-            (b" ", 3, 3, 3, b"         "),
+            case(b"a bb ccc", 5, 10, 5, NARROW),
+            case(b"a bb ccc", 5, 10, 7, BETWEEN),
+            case(b"a bb ccc", 5, 10, 11, WIDE),
+            case(b" ", 3, 3, 3, b"         "),
         ],
     )
 }
@@ -77,9 +78,9 @@ fn padding_1_over_block(rt: HostRuntime) -> Result<(), Fail> {
         Kind::Block,
         Pile::Padding(1),
         &[
-            (b"a\n bb\n\nc", 5, 5, 5, NARROW),
-            (b"a\n bb\n\nc", 5, 5, 7, WIDE),
-            (b"\n", 3, 3, 3, b"            "),
+            case(b"a\n bb\n\nc", 5, 5, 5, NARROW),
+            case(b"a\n bb\n\nc", 5, 5, 7, WIDE),
+            case(b"\n", 3, 3, 3, b"            "),
         ],
     )
 }
@@ -99,7 +100,7 @@ fn padding_3(rt: HostRuntime) -> Result<(), Fail> {
         &rt,
         Kind::Text,
         Pile::Padding(3),
-        &[(b"a bb ccc", 9, 14, 10, TEXT)],
+        &[case(b"a bb ccc", 9, 14, 10, TEXT)],
     )?;
     const BLOCK: &[u8] = b"\
         \x20          \
@@ -115,7 +116,7 @@ fn padding_3(rt: HostRuntime) -> Result<(), Fail> {
         &rt,
         Kind::Block,
         Pile::Padding(3),
-        &[(b"\nb  b\n c", 10, 10, 11, BLOCK)],
+        &[case(b"\nb  b\n c", 10, 10, 11, BLOCK)],
     )
 }
 
@@ -144,7 +145,7 @@ fn padding_8(rt: HostRuntime) -> Result<(), Fail> {
         &rt,
         Kind::Text,
         Pile::Padding(8),
-        &[(b" a b", 17, 19, 17, TEXT)],
+        &[case(b" a b", 17, 19, 17, TEXT)],
     )?;
     const BLOCK: &[u8] = b"\
         \x20                 \
@@ -168,7 +169,7 @@ fn padding_8(rt: HostRuntime) -> Result<(), Fail> {
         &rt,
         Kind::Block,
         Pile::Padding(8),
-        &[(b"&amp;", 17, 17, 18, BLOCK)],
+        &[case(b"&amp;", 17, 17, 18, BLOCK)],
     )
 }
 
@@ -195,9 +196,9 @@ fn frame_0(rt: HostRuntime) -> Result<(), Fail> {
         Kind::Text,
         Pile::Frame(0),
         &[
-            (b"a bb ccc", 3, 8, 3, b"a  bb ccc"),
-            (b"a bb ccc", 3, 8, 4, b"a bbccc "),
-            (b"a bb ccc", 3, 8, 8, b"a bb ccc"),
+            case(b"a bb ccc", 3, 8, 3, b"a  bb ccc"),
+            case(b"a bb ccc", 3, 8, 4, b"a bbccc "),
+            case(b"a bb ccc", 3, 8, 8, b"a bb ccc"),
         ],
     )?;
     check_each(
@@ -205,8 +206,8 @@ fn frame_0(rt: HostRuntime) -> Result<(), Fail> {
         Kind::Block,
         Pile::Frame(0),
         &[
-            (b"a bb\nccc", 4, 4, 4, b"a bbccc "),
-            (b"a bb\nccc", 4, 4, 6, b"a bb  ccc   "),
+            case(b"a bb\nccc", 4, 4, 4, b"a bbccc "),
+            case(b"a bb\nccc", 4, 4, 6, b"a bb  ccc   "),
         ],
     )
 }
@@ -233,10 +234,10 @@ fn frame_1_over_text(rt: HostRuntime) -> Result<(), Fail> {
         Kind::Text,
         Pile::Frame(1),
         &[
-            (b"a bb ccc", 5, 10, 5, NARROW),
-            (b"a bb ccc", 5, 10, 7, BETWEEN),
-            (b"a bb ccc", 5, 10, 12, WIDE),
-            (b"", 3, 3, 3, b"+-+| |+-+"),
+            case(b"a bb ccc", 5, 10, 5, NARROW),
+            case(b"a bb ccc", 5, 10, 7, BETWEEN),
+            case(b"a bb ccc", 5, 10, 12, WIDE),
+            case(b"", 3, 3, 3, b"+-+| |+-+"),
         ],
     )
 }
@@ -262,9 +263,9 @@ fn frame_1_over_block(rt: HostRuntime) -> Result<(), Fail> {
         Kind::Block,
         Pile::Frame(1),
         &[
-            (b"a\n bb\n\nc", 5, 5, 5, NARROW),
-            (b"a\n bb\n\nc", 5, 5, 7, WIDE),
-            (b"\n", 3, 3, 3, b"+-+| || |+-+"),
+            case(b"a\n bb\n\nc", 5, 5, 5, NARROW),
+            case(b"a\n bb\n\nc", 5, 5, 7, WIDE),
+            case(b"\n", 3, 3, 3, b"+-+| || |+-+"),
         ],
     )
 }

@@ -9,6 +9,10 @@ use std::test::Fail;
 // the other with nothing between, or is empty where the content is not set at that width.
 pub(crate) type Content<'a> = (u16, u16, u16, u16, &'a [u8]);
 
+pub(crate) fn content<'a>(k: u16, least: u16, most: u16, w: u16, page: &'a [u8]) -> Content<'a> {
+    (k, least, most, w, page)
+}
+
 // The shelf has these contents, and no other of the numbers below 18 nor the last two.
 pub(crate) fn check_shelf<S: Shelf>(
     rt: &impl Abort,

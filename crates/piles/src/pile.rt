@@ -4,6 +4,7 @@ use layers::frame::Frame;
 use layers::padding::Padding;
 use shelf::Shelf;
 use std::process::Abort;
+use std::test::Fail;
 
 // The layers over a shelf, the outermost named first. A number is the size of the padding, or of the frame where there is no padding; all
 // else has size 1.

@@ -6,6 +6,7 @@ use layers::frame::Frame;
 use layers::padding::Padding;
 use shelf::Shelf;
 use std::process::Abort;
+use std::test::Fail;
 use text::shelves::TextShelf;
 
 #[test]
@@ -65,10 +66,10 @@ fn a_reference_cut_by_the_end(rt: HostRuntime) -> Result<(), Fail> {
         b"&lt;",
         &[(0, 3), (0, 4), (0, 1), (1, 4)],
         &[
-            (2, 1, 1, 1, b"<"),
-            (3, 1, 1, 1, b"<"),
-            (6, 3, 3, 3, b"lt;"),
-            (7, 3, 3, 3, b"lt;"),
+            content(2, 1, 1, 1, b"<"),
+            content(3, 1, 1, 1, b"<"),
+            content(6, 3, 3, 3, b"lt;"),
+            content(7, 3, 3, 3, b"lt;"),
         ],
     )
 }
@@ -89,7 +90,7 @@ fn places_outside_the_file(rt: HostRuntime) -> Result<(), Fail> {
             (usize::MAX, 0),
             (0, usize::MAX),
         ],
-        &[(4, 3, 3, 3, b"abc"), (5, 3, 3, 3, b"abc")],
+        &[content(4, 3, 3, 3, b"abc"), content(5, 3, 3, 3, b"abc")],
     )
 }
 
@@ -103,16 +104,16 @@ fn tabs_and_returns(rt: HostRuntime) -> Result<(), Fail> {
         b"\ta\tb\r\nc\r",
         &[(0, 1), (1, 4), (4, 5), (3, 7), (5, 8), (5, 7)],
         &[
-            (0, 1, 1, 1, b" "),
-            (2, 1, 3, 1, b"ab"),
-            (2, 1, 3, 3, b"a b"),
-            (4, 1, 1, 1, b" "),
-            (6, 1, 3, 1, b"bc"),
-            (6, 1, 3, 3, b"b c"),
-            (8, 1, 1, 1, b"c"),
-            (10, 1, 1, 1, b"c"),
-            (11, 1, 1, 1, b" c"),
-            (11, 1, 1, 2, b"  c "),
+            content(0, 1, 1, 1, b" "),
+            content(2, 1, 3, 1, b"ab"),
+            content(2, 1, 3, 3, b"a b"),
+            content(4, 1, 1, 1, b" "),
+            content(6, 1, 3, 1, b"bc"),
+            content(6, 1, 3, 3, b"b c"),
+            content(8, 1, 1, 1, b"c"),
+            content(10, 1, 1, 1, b"c"),
+            content(11, 1, 1, 1, b" c"),
+            content(11, 1, 1, 2, b"  c "),
         ],
     )
 }
@@ -120,7 +121,7 @@ fn tabs_and_returns(rt: HostRuntime) -> Result<(), Fail> {
 // The table of contents is empty.
 #[test]
 fn no_places(rt: HostRuntime) -> Result<(), Fail> {
-    let contents: [Content; 1] = [(0, 3, 3, 3, b"abc")];
+    let contents: [Content; 1] = [content(0, 3, 3, 3, b"abc")];
     check_file(&rt, Base::Joined, Pile::Bare, b"abc", &[], &contents[1..])
 }
 

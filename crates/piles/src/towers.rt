@@ -2,6 +2,7 @@
 use crate::files::*;
 use crate::pile::*;
 use letters::Kind;
+use std::test::Fail;
 
 #[test]
 fn frame_over_padding_over_text(rt: HostRuntime) -> Result<(), Fail> {
@@ -37,10 +38,10 @@ fn frame_over_padding_over_text(rt: HostRuntime) -> Result<(), Fail> {
         Kind::Text,
         Pile::FramePadding(1),
         &[
-            (b"a bb ccc", 7, 12, 7, NARROW),
-            (b"a bb ccc", 7, 12, 8, BETWEEN),
-            (b"a bb ccc", 7, 12, 14, WIDE),
-            (b"\n", 5, 5, 6, EMPTY),
+            case(b"a bb ccc", 7, 12, 7, NARROW),
+            case(b"a bb ccc", 7, 12, 8, BETWEEN),
+            case(b"a bb ccc", 7, 12, 14, WIDE),
+            case(b"\n", 5, 5, 6, EMPTY),
         ],
     )
 }
@@ -60,7 +61,7 @@ fn frame_over_padding_2_over_text(rt: HostRuntime) -> Result<(), Fail> {
         &rt,
         Kind::Text,
         Pile::FramePadding(2),
-        &[(b"&lt;p&gt; is &amp;co", 9, 16, 12, PAGE)],
+        &[case(b"&lt;p&gt; is &amp;co", 9, 16, 12, PAGE)],
     )
 }
 
@@ -95,9 +96,9 @@ fn padding_over_frame_over_block(rt: HostRuntime) -> Result<(), Fail> {
         Kind::Block,
         Pile::PaddingFrame(1),
         &[
-            (b"\nab\n  c\n", 7, 7, 7, NARROW),
-            (b"\nab\n  c\n", 7, 7, 9, WIDE),
-            (b"", 5, 5, 6, EMPTY),
+            case(b"\nab\n  c\n", 7, 7, 7, NARROW),
+            case(b"\nab\n  c\n", 7, 7, 9, WIDE),
+            case(b"", 5, 5, 6, EMPTY),
         ],
     )
 }
@@ -142,9 +143,9 @@ fn two_paddings_and_two_frames_over_text(rt: HostRuntime) -> Result<(), Fail> {
         Kind::Text,
         Pile::PaddingFramePaddingFrame,
         &[
-            (b"a bb ccc", 11, 16, 11, NARROW),
-            (b"a bb ccc", 11, 16, 12, BETWEEN),
-            (b"a bb ccc", 11, 16, 16, WIDE),
+            case(b"a bb ccc", 11, 16, 11, NARROW),
+            case(b"a bb ccc", 11, 16, 12, BETWEEN),
+            case(b"a bb ccc", 11, 16, 16, WIDE),
         ],
     )
 }
@@ -182,8 +183,8 @@ fn two_paddings_and_two_frames_over_block(rt: HostRuntime) -> Result<(), Fail> {
         Kind::Block,
         Pile::PaddingFramePaddingFrame,
         &[
-            (b" x\n\n&quot;\n", 10, 10, 10, NARROW),
-            (b" x\n\n&quot;\n", 10, 10, 13, WIDE),
+            case(b" x\n\n&quot;\n", 10, 10, 10, NARROW),
+            case(b" x\n\n&quot;\n", 10, 10, 13, WIDE),
         ],
     )
 }
