@@ -1,7 +1,6 @@
 -- End tags, and tags with where they end.
-use Rattle.std.proofs.Common.{◌≡◌, ℕ, ◌<◌, ◌≤◌, Bool, true, false, cond, eqb, List, [], ◌∷◌, length, take, drop, Some, None, Ok, Err, Option, Result, sym, refl, ap, ◌∙◌, arith}
+use Rattle.std.proofs.Common.{◌≡◌, ℕ, ◌<◌, ◌≤◌, Bool, true, false, cond, eqb, List, [], ◌∷◌, length, take, drop, Some, None, Err, Option, Result, sym, refl, ap, ◌∙◌, arith}
 use Rattle.std.proofs.lemmas.Bool.{cond_both, cond-true, cond-false, eq-eqb, ne_eqb, eqb-true, eqb-false}
-use Rattle.std.proofs.lemmas.Bool.Decides.{nat_tests}
 use Rattle.classes.specs.Classes.{white}
 use Rattle.fault.specs.declared.Reason.{Reason}
 use Rattle.fault.specs.declared.Reason.TheVariants.{ByteNotAllowed, Malformed}
@@ -9,7 +8,7 @@ use Rattle.markup.specs.declared.record.Attribute.{Attribute}
 use Rattle.markup.specs.declared.record.Name.{Name}
 use Rattle.markup.specs.declared.record.Tag.{Tag}
 use Rattle.markup.specs.declared.record.Tag.TheVariants.{End}
-use Rattle.markup.specs.Attributes.{Values, Given, Piece, Bad, Last, One, no_values, given_of, piece_one, piece_at, after_piece, values_of}
+use Rattle.markup.specs.Attributes.{Values, Given, Piece, Bad, Last, no_values, given_of, piece_one, piece_at, after_piece, values_of}
 use Rattle.markup.specs.Spans.{letter, front}
 use Rattle.markup.specs.Tags.{name_of, ended, ending_of, named_ending, body_of, before, sized, tag_of}
 use Rattle.markup.specs.Views.{closed}

@@ -1,14 +1,13 @@
 -- What is read as attributes is so written.
-use Rattle.std.proofs.Common.{◌≡◌, ℕ, zero, suc, ◌+◌, ◌-◌, ◌<◌, ◌≤◌, Bool, true, false, cond, ◌&&◌, eqb, ltb, leb, List, [], ◌∷◌, ◌++◌, length, get_or, take, drop, set, is_some, IfSome, Some, None, Option, sym, refl, ap, ◌∙◌, subst, arith, length-append}
-use Rattle.std.proofs.lemmas.List.{append_assoc, length-take-le, length-set, take-append-drop, take_all, take_more, drop_more, drop_at, get_or-set_same, get_or-set_other}
+use Rattle.std.proofs.Common.{◌≡◌, ℕ, suc, ◌+◌, ◌<◌, ◌≤◌, cond, ◌&&◌, eqb, ltb, leb, List, [], ◌∷◌, ◌++◌, length, get_or, take, drop, IfSome, Some, None, Option, sym, refl, ap, ◌∙◌, subst, arith}
+use Rattle.std.proofs.lemmas.List.{length-take-le, take-append-drop, take_all, take_more, drop_more}
 use Rattle.std.proofs.lemmas.Bool.{cond_both, and_parts, leb-true, ltb-true, eqb-true, eqb-false}
 use Rattle.classes.specs.Classes.{white}
 use Rattle.markup.specs.declared.record.Attribute.{Attribute}
-use Rattle.markup.specs.Attributes.{Values, Given, Piece, Bad, Last, One, attribute_of, index_of, value_in, bare_value, quoted_value, value_of, joined, given_at, given_of, piece_one, piece_at, piece_of, with_given, after_given, after_piece, values_of}
-use Rattle.markup.specs.Form.{Only, ValueWritten, bare, quoted, AttributesWritten, none, one, Absent, Once, all_set}
+use Rattle.markup.specs.Attributes.{Given, Piece, Bad, Last, One, attribute_of, bare_value, quoted_value, value_of, joined, given_of, piece_one, piece_of}
+use Rattle.markup.specs.Form.{Only, ValueWritten, bare, quoted}
 use Rattle.markup.specs.Spans.{letter, digit, front, number}
 use Rattle.markup.proofs.Runs.{front_le, front_only}
-use Rattle.markup.proofs.Steps.{values_skip}
 
 -- ---- a value
 

@@ -1,5 +1,5 @@
 -- Attributes: white space, a name, "=", and 1 to 5 digits, bare or in double quotes; no name twice.
-use Rattle.std.specs.Prelude.{ℕ, zero, suc, ◌+◌, ◌-◌, ◌<◌, ◌≤◌, Bool, true, false, cond, ◌&&◌, List, [], ◌∷◌, length, take, drop, replicate, is_some, Some, None, codes, Option, ◌==◌, nat_le, nat_lt, slice_index, slice_index_or, slice_set}
+use Rattle.std.specs.Prelude.{ℕ, zero, suc, ◌+◌, ◌-◌, Bool, cond, ◌&&◌, List, [], ◌∷◌, length, take, drop, replicate, is_some, Some, None, codes, Option, ◌==◌, nat_le, nat_lt, slice_index, slice_index_or, slice_set}
 use Rattle.classes.specs.Classes.{white}
 use Rattle.markup.specs.declared.record.Attribute.{Attribute}
 use Rattle.markup.specs.declared.record.Attribute.TheVariants.{Cols, Cellspacing, Width, Cellpadding, Border, Colspan, Rowspan}

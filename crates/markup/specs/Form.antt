@@ -1,5 +1,5 @@
 -- The form of a tag's attributes as a grammar, and not as a scan.
-use Rattle.std.specs.Prelude.{◌≡◌, ℕ, ◌≤◌, Bool, true, List, [], ◌∷◌, ◌++◌, length, set, Some, ◌≢◌, slice_set}
+use Rattle.std.specs.Prelude.{◌≡◌, ℕ, ◌≤◌, Bool, true, List, [], ◌∷◌, ◌++◌, length, Some, ◌≢◌, slice_set}
 use Rattle.classes.specs.Classes.{white}
 use Rattle.markup.specs.declared.record.Attribute.{Attribute}
 use Rattle.markup.specs.Attributes.{Values, no_values, attribute_of, index_of, values_of}

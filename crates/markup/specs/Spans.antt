@@ -1,6 +1,6 @@
 -- Bytes that come first, letters in either case, and numbers.
 use Rattle.std.specs.Prelude.{ℕ, suc, ◌+◌, ◌-◌, ◌*◌, Bool, true, false, cond, ◌&&◌, ◌||◌, List, [], ◌∷◌, ◌==◌}
-use Rattle.classes.specs.Classes.{from_to, white}
+use Rattle.classes.specs.Classes.{from_to}
 
 abbrev pub letter : ℕ → Bool
 letter b = from_to 65 90 b || from_to 97 122 b

@@ -1,4 +1,4 @@
-use Rattle.std.proofs.Common.{◌≡◌, sym, ◌∙◌, arith}
+use Rattle.std.proofs.Common.{sym, ◌∙◌, arith}
 use Rattle.markup.proofs.Ends.{at_greater, at_forbidden, at_other, at_end, is_closed, not_closed}
 use Rattle.markup.proofs.tags.close.Goals as goal
 
@@ -14,7 +14,7 @@ returns-in-Forbidden c =
 
 pub loop-n-preserved : goal.loop-n-preserved
 loop-n-preserved c =
-    let e = at_other c.args.rest.now c.loop-n.n (omega arith) c.class-of.result c.class-of.ensures c.in-default.not-Greater c.in-default.not-Forbidden in
+    let e = at_other c.args.rest.now c.loop-n.n (omega arith) c.class_of.result c.class_of.ensures c.in_default.not-Greater c.in_default.not-Forbidden in
     (omega arith, sym e.1 ∙ c.loop-n.invariant.1)
 
 pub returns : goal.returns

@@ -1,4 +1,4 @@
-use Rattle.std.proofs.Common.{◌≡◌, ◌<◌, ◌≤◌, length, None, sym, ap, ◌∙◌, arith, length-drop}
+use Rattle.std.proofs.Common.{◌<◌, ◌≤◌, length, None, sym, ap, ◌∙◌, arith, length-drop}
 use Rattle.std.proofs.lemmas.List.{at_drop_all}
 use Rattle.markup.specs.Attributes.{Bad, Last, piece_of, values_of}
 use Rattle.markup.specs.Tags.{may}
@@ -16,16 +16,16 @@ returns-in-Last c =
     let h : c.loop-i.i < length c.args.rest.now = omega arith in
     by_piece (may c.args.outermost c.args.name) c.loop-i.values c.loop-i.i c.args.rest.now Last h (c.in-Last.ensures.value ∙ ap piece_of c.tail.ensures) ∙ c.loop-i.invariant.0
 
-pub returns-in-err-values : goal.returns-in-err-values
-returns-in-err-values c =
+pub returns-in_err-values-in-One : goal.returns-in_err-values-in-One
+returns-in_err-values-in-One c =
     let h : c.loop-i.i < length c.args.rest.now = omega arith in
-    c.from-residual.ensures ∙ (by_given (may c.args.outermost c.args.name) c.loop-i.values c.loop-i.i c.args.rest.now (as_given c.in-One.given) c.in-One.n None h (c.in-One.ensures.value ∙ ap piece_of c.tail.ensures) c.in-err-values.ensures ∙ c.loop-i.invariant.0)
+    c.from_residual.ensures ∙ (by_given (may c.args.outermost c.args.name) c.loop-i.values c.loop-i.i c.args.rest.now (as_given c.in-One.given) c.in-One.n None h (c.in-One.ensures.value ∙ ap piece_of c.tail.ensures) c.in_err-values-in-One.ensures ∙ c.loop-i.invariant.0)
 
 pub loop-i-preserved : goal.loop-i-preserved
 loop-i-preserved c =
     let h : c.loop-i.i < length c.args.rest.now = omega arith in
     let k = c.in-One.ensures.within in (
-      values_on (may c.args.outermost c.args.name) c.loop-i.values c.loop-i.i c.args.rest.now (as_given c.in-One.given) c.in-One.n c.in-ok-values.values h k.0 (c.in-One.ensures.value ∙ ap piece_of c.tail.ensures) c.in-ok-values.ensures ∙ c.loop-i.invariant.0,
+      values_on (may c.args.outermost c.args.name) c.loop-i.values c.loop-i.i c.args.rest.now (as_given c.in-One.given) c.in-One.n c.in_ok-values-in-One.values h k.0 (c.in-One.ensures.value ∙ ap piece_of c.tail.ensures) c.in_ok-values-in-One.ensures ∙ c.loop-i.invariant.0,
       omega (arith, k, ap length c.tail.ensures, length-drop c.loop-i.i c.args.rest.now),
     )
 
