@@ -1,5 +1,5 @@
 -- The laws of the layout: accepted, its measures fit, and no others do; declined, the condition of the refusal holds; and what a laid sheet promises.
-use Rattle.std.specs.Prelude.{◌≡◌, ℕ, ◌+◌, ◌-◌, ◌*◌, ◌<◌, ◌≤◌, true, false, List, map, length, Some, ◌≢◌, slice_index}
+use Rattle.std.specs.Prelude.{◌≡◌, ℕ, ◌+◌, ◌-◌, ◌*◌, ◌<◌, ◌≤◌, false, List, map, length, Some, ◌≢◌, slice_index}
 use Rattle.std.specs.List.{slice_get}
 use Rattle.fault.specs.declared.Fault.{Fault}
 use Rattle.fault.specs.declared.Reason.{Reason}
@@ -14,7 +14,7 @@ use Rattle.plan.specs.declared.record.Table.{Table}
 use Rattle.columns.specs.Columns.{leasts, greatests, spreads, least_width, greatest_width}
 use Rattle.columns.specs.Tables.{own_columns, widths, heights}
 use Rattle.columns.specs.Tracks.{whole}
-use Rattle.laid.specs.Views.{seen, least_in, holder}
+use Rattle.laid.specs.Views.{seen, holder}
 use Rattle.laid.specs.Layout.{Lists, offer_of, corner, clear_table, clear_cell, tallest}
 use Rattle.laid.specs.Fits.{ColumnsFit, TableFits, Shelved, Narrow, Low, Fits}
 use Rattle.laid.specs.Geometry.{Inside, Disjoint, Sound}

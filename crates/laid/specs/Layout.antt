@@ -1,5 +1,5 @@
 -- The layout of a sheet: columns from the highest table down, offers going up, rows from the highest table down, boxes going up.
-use Rattle.std.specs.Prelude.{ℕ, zero, suc, ◌+◌, min, max, Bool, true, false, cond, List, [], ◌∷◌, map, length, Some, None, Ok, Err, Option, Result, nat_lt}
+use Rattle.std.specs.Prelude.{ℕ, zero, suc, ◌+◌, min, max, Bool, cond, List, [], ◌∷◌, map, length, Some, None, Ok, Err, Option, Result, nat_lt}
 use Rattle.std.specs.List.{slice_get}
 use Rattle.fault.specs.Numbers.{fault}
 use Rattle.fault.specs.declared.Fault.{Fault}
@@ -15,7 +15,7 @@ use Rattle.plan.specs.declared.record.Holds.TheVariants.{Content, Inner}
 use Rattle.plan.specs.declared.record.Rect.{Rect}
 use Rattle.plan.specs.declared.record.Table.{Table}
 use Rattle.plan.specs.Blank.{no_rect}
-use Rattle.columns.specs.Columns.{least_width, overflow_of}
+use Rattle.columns.specs.Columns.{least_width}
 use Rattle.columns.specs.Tables.{own_columns, widths, heights, measured, offered_to, stacked}
 use Rattle.columns.specs.Tracks.{begins, whole}
 use Rattle.columns.specs.Wants.{Want}
