@@ -78,7 +78,7 @@ fn print_size(rt: &HostRuntime, size: Size) -> io::Result<()> {
 
 // Prints the lines of content 0 by way of a row of its width. Its size was told by the shelf, so no line is refused.
 fn print_lines<S: Shelf>(rt: &HostRuntime, shelf: &S, size: Size, row: &mut [u8]) -> io::Result<()>
-    requires told { Ok size ≡ size_answer (meaning shelf.now) }
+    requires told { Ok size ≡ size_answer (S.meaning shelf.now) }
     requires wide { length row.old ≡ size.width }
 {
     for r in 0..size.height {

@@ -19,7 +19,7 @@ pub(crate) struct Size {
 
 /// The size of content 0 at 60 columns, or at its minimum if that is larger.
 pub(crate) fn measure<S: Shelf>(shelf: &S) -> Result<Size, Fault>
-    ensures { result ≡ size_answer (meaning shelf.now) }
+    ensures { result ≡ size_answer (S.meaning shelf.now) }
 {
     let (least, most) = shelf.widths(0)?;
     let width = least.max(WISHED);
