@@ -8,6 +8,7 @@ use engine::Sheet;
 use plan::Holds::*;
 use plan::{Cell, Table};
 use std::process::Abort;
+use std::test::Fail;
 
 // Call k of those that fill 33 rows of 32 columns with contents, one in each place, where only so many cells find room. The last call
 // nests a table, in a row that is then still empty.

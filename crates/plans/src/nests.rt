@@ -3,6 +3,7 @@ use crate::sheets::*;
 use crate::steps::Answer::*;
 use crate::steps::Step::*;
 use plan::Holds::*;
+use std::test::Fail;
 
 #[test]
 fn spans_outside_their_range(rt: HostRuntime) -> Result<(), Fail> {

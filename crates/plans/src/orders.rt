@@ -3,6 +3,7 @@ use crate::sheets::*;
 use crate::steps::Answer::*;
 use crate::steps::Step::*;
 use plan::Holds::*;
+use std::test::Fail;
 
 // A start outside its range on a started sheet with a full list, and each of the later two alone with what comes after it.
 #[test]

@@ -3,6 +3,7 @@ use crate::sheets::*;
 use crate::steps::Answer::*;
 use crate::steps::Step::*;
 use plan::Holds::*;
+use std::test::Fail;
 
 #[test]
 fn six_columns(rt: HostRuntime) -> Result<(), Fail> {

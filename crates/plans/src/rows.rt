@@ -3,6 +3,7 @@ use crate::sheets::*;
 use crate::steps::Answer::*;
 use crate::steps::Step::*;
 use plan::Holds::*;
+use std::test::Fail;
 
 #[test]
 fn no_such_table(rt: HostRuntime) -> Result<(), Fail> {

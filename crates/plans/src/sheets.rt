@@ -52,7 +52,7 @@ fn check_cases(
     let mut cell_places = [Cell::blank(); CELL_ROOM];
     let mut other = sheet_over(&mut table_places, &mut cell_places, rooms);
     for (i, (step, answer)) in cases.iter().enumerate() {
-        check_case(rt, sheet, &mut other, *step, *answer).note(i)?;
+        check_case(rt, sheet, &mut other, i, *step, *answer)?;
     }
     Ok(())
 }
@@ -61,15 +61,19 @@ fn check_case(
     rt: &impl Abort,
     sheet: &mut Sheet,
     other: &mut Sheet,
+    i: usize,
     step: Step,
     answer: Answer,
 ) -> Result<(), Fail> {
-    assert_eq!(rt; carry_out(sheet, step), answer);
+    assert_eq!(rt; carry_out(sheet, step), answer, "call {i}");
     if !is_refusal(answer) {
-        assert_eq!(rt; carry_out(other, step), answer);
+        assert_eq!(rt; carry_out(other, step), answer, "call {i}");
     }
-    assert!(rt; !sheet.is_laid());
-    assert!(rt; has_same_tables(sheet, other) && has_same_cells(sheet, other));
+    assert!(rt; !sheet.is_laid(), "call {i}");
+    assert!(rt;
+        has_same_tables(sheet, other) && has_same_cells(sheet, other),
+        "call {i}"
+    );
     Ok(())
 }
 

@@ -5,6 +5,7 @@ use crate::steps::Answer::*;
 use crate::steps::Step::*;
 use plan::Holds::*;
 use std::process::Abort;
+use std::test::Fail;
 
 // Each start of that many columns and that spacing, on a sheet of its own, is answered so.
 fn check_starts(rt: &impl Abort, cases: &[(u8, u8, Answer)]) -> Result<(), Fail> {
