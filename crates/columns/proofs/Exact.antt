@@ -1,7 +1,7 @@
 -- A column that no longer span raises has just what its own cells ask, or its fixed width.
 use Rattle.std.proofs.Common.{◌≡◌, ℕ, zero, suc, ◌+◌, ◌-◌, ◌<◌, ◌≤◌, max, Bool, true, false, cond, ◌&&◌, eqb, List, [], ◌∷◌, map, length, get_or, take, drop, sym, refl, ap, ◌∙◌, subst, inl, inr, arith, get_or-take}
 use native.Mathlib.Nat.{sub_self}
-use Rattle.std.specs.List.{AllByRecursion as All}
+use Rattle.std.specs.List.{AllByRecursion}
 use Rattle.std.proofs.lemmas.List.{length-map, length-drop, get_or_append_left, get_or-append_right, get_or-drop, get_or-map, length-take-le}
 use Rattle.std.proofs.lemmas.Bool.{both_ways, cond_both, cond-true, cond-false, cases_lt, cases_eq, cases_Bool, eq-eqb, ne_eqb, and_left}
 use Rattle.share.specs.Share.{total, upto, parts, brings}
@@ -137,11 +137,11 @@ module _ (q : ℕ) (j : ℕ) where
   spares_grown : (x : Want) {cs ds : List Column} → Grown cs ds → Spares cs j x → Spares ds j x
   spares_grown x g s two low high = let p = s two low high in (ap is_free (sizing_at g j) ∙ p.0, open_grown x g p.1)
 
-  all_spares_grown : (xs : List Want) {cs ds : List Column} → Grown cs ds → All (Spares cs j) xs → All (Spares ds j) xs
+  all_spares_grown : (xs : List Want) {cs ds : List Column} → Grown cs ds → AllByRecursion (Spares cs j) xs → AllByRecursion (Spares ds j) xs
   all_spares_grown [] g h = tt
   all_spares_grown (x ∷ xs) g h = (spares_grown x g h.0, all_spares_grown xs g h.1)
 
-  each_spares : (top s : ℕ) (xs : List Want) (cs : List Column) → 2 ≤ s → All (Fits top (length cs)) xs → All (Spares cs j) xs → SameLeast cs (each_of s (raise_span q) xs cs)
+  each_spares : (top s : ℕ) (xs : List Want) (cs : List Column) → 2 ≤ s → AllByRecursion (Fits top (length cs)) xs → AllByRecursion (Spares cs j) xs → SameLeast cs (each_of s (raise_span q) xs cs)
   unfolding each_of
   each_spares top s [] cs two fits h = refl
   each_spares top s (x ∷ xs) cs two fits h =
@@ -151,22 +151,22 @@ module _ (q : ℕ) (j : ℕ) where
             let g : Grown cs (raise_span q x cs) = grown_span q x cs in
             let f = fits.0 in
             ap (λ ds. least_at (each_of s (raise_span q) xs ds) j) t ∙
-            each_spares top s xs (raise_span q x cs) two (subst (λ n. All (Fits top n) xs) (grown_length g) fits.1) (all_spares_grown xs g h.1) ∙
+            each_spares top s xs (raise_span q x cs) two (subst (λ n. AllByRecursion (Fits top n) xs) (grown_length g) fits.1) (all_spares_grown xs g h.1) ∙
             span_spares x cs f.2 (omega arith) h.0
         | inr e ↦
             let t : cond (eqb x.span s) (raise_span q x cs) cs ≡ cs = cond-false (eqb x.span s) (raise_span q x cs) cs (ne_eqb x.span s e) in
             ap (λ ds. least_at (each_of s (raise_span q) xs ds) j) t ∙ each_spares top s xs cs two fits.1 h.1
       ]
 
-  spans_spares : (top n s : ℕ) (xs : List Want) (cs : List Column) → 2 ≤ s → All (Fits top (length cs)) xs → All (Spares cs j) xs → SameLeast cs (spans (raise_span q) n s xs cs)
+  spans_spares : (top n s : ℕ) (xs : List Want) (cs : List Column) → 2 ≤ s → AllByRecursion (Fits top (length cs)) xs → AllByRecursion (Spares cs j) xs → SameLeast cs (spans (raise_span q) n s xs cs)
   unfolding spans
   spans_spares top zero s xs cs two fits h = refl
   spans_spares top (suc n) s xs cs two fits h =
       let ds : List Column = each_of s (raise_span q) xs cs in
       let g : Grown cs ds = grown_each_of s (raise_span q) (grown_span q) xs cs in
-      spans_spares top n (suc s) xs ds (omega arith) (subst (λ m. All (Fits top m) xs) (grown_length g) fits) (all_spares_grown xs g h) ∙ each_spares top s xs cs two fits h
+      spans_spares top n (suc s) xs ds (omega arith) (subst (λ m. AllByRecursion (Fits top m) xs) (grown_length g) fits) (all_spares_grown xs g h) ∙ each_spares top s xs cs two fits h
 
-  spares_fresh : (xs : List Want) (cols : List Column) → j < length cols → All (Spares cols j) xs → All (Spares (map fresh cols) j) xs
+  spares_fresh : (xs : List Want) (cols : List Column) → j < length cols → AllByRecursion (Spares cols j) xs → AllByRecursion (Spares (map fresh cols) j) xs
   spares_fresh [] cols h s = tt
   spares_fresh (x ∷ xs) cols h s = (
     (λ two low high.
@@ -194,7 +194,7 @@ module _ (q : ℕ) (j : ℕ) where
         | inr from ↦ ap (λ (c : Column). c.least) (over_after (map (raised_to x)) (λ zs. length-map zs (raised_to x)) x.first 1 cs j fits (omega arith))
       ]
 
-  ones_least : (top : ℕ) (xs : List Want) (cs : List Column) → All (Fits top (length cs)) xs → 1 ≤ least_at cs j → least_at (each_of 1 raise_one xs cs) j ≡ max (least_at cs j) (own_minimum j xs)
+  ones_least : (top : ℕ) (xs : List Want) (cs : List Column) → AllByRecursion (Fits top (length cs)) xs → 1 ≤ least_at cs j → least_at (each_of 1 raise_one xs cs) j ≡ max (least_at cs j) (own_minimum j xs)
   unfolding each_of
   ones_least top [] cs fits some = omega arith
   ones_least top (x ∷ xs) cs fits some =
@@ -204,7 +204,7 @@ module _ (q : ℕ) (j : ℕ) where
         | inl e ↦
             let t : cond (eqb x.span 1) (raise_one x cs) cs ≡ raise_one x cs = cond-true (eqb x.span 1) (raise_one x cs) cs (eq-eqb x.span 1 e) in
             let g : Grown cs (raise_one x cs) = grown_one x cs in
-            let fits' = subst (λ n. All (Fits top n) xs) (grown_length g) fits.1 in
+            let fits' = subst (λ n. AllByRecursion (Fits top n) xs) (grown_length g) fits.1 in
             let fit : x.first + 1 ≤ length cs = omega (arith, f.2) in
             let b : eqb x.span 1 ≡ true = eq-eqb x.span 1 e in
             elim (cases_eq x.first j) [
@@ -230,12 +230,12 @@ module _ (q : ℕ) (j : ℕ) where
         | inr e ↦ ap (λ (d : Column). d.least) (cond-false (free c) c _ e)
       ]
 
-  pub exact_least : (top : ℕ) (cols : List Column) (xs : List Want) → j < length cols → All (Fits top (length cols)) xs → All (Spares cols j) xs → least_at (pass top q cols xs) j ≡ own_least (get_or cols j blank_column) (own_minimum j xs)
+  pub exact_least : (top : ℕ) (cols : List Column) (xs : List Want) → j < length cols → AllByRecursion (Fits top (length cols)) xs → AllByRecursion (Spares cols j) xs → least_at (pass top q cols xs) j ≡ own_least (get_or cols j blank_column) (own_minimum j xs)
   unfolding pass
   exact_least top cols xs h fits spares =
       let cs : List Column = map fresh cols in
       let l : length cs ≡ length cols = length-map cols fresh in
-      let fits' : All (Fits top (length cs)) xs = subst (λ n. All (Fits top n) xs) (sym l) fits in
+      let fits' : AllByRecursion (Fits top (length cs)) xs = subst (λ n. AllByRecursion (Fits top n) xs) (sym l) fits in
       let ds : List Column = each_of 1 raise_one xs cs in
       let es : List Column = map held ds in
       let g : Grown cs ds = grown_each_of 1 raise_one grown_one xs cs in
@@ -246,5 +246,5 @@ module _ (q : ℕ) (j : ℕ) where
       let low = ones_least top xs cs fits' (omega arith) in
       let step2 : least_at es j ≡ max (fixed_of (get_or ds j blank_column)) (least_at ds j) = ap (λ (c : Column). c.least) (get_or-map held ds j blank_column blank_column hd) ∙ held_least (get_or ds j blank_column) in
       let same_size : fixed_of (get_or ds j blank_column) ≡ fixed_of (get_or cols j blank_column) = ap fixed_at (sizing_at g j ∙ ap (λ (c : Column). c.sizing) at-fresh) in
-      let step3 = spans_spares top top 2 xs es (omega arith) (subst (λ n. All (Fits top n) xs) (grown_length g') fits') (all_spares_grown xs g' (spares_fresh xs cols h spares)) in
+      let step3 = spans_spares top top 2 xs es (omega arith) (subst (λ n. AllByRecursion (Fits top n) xs) (grown_length g') fits') (all_spares_grown xs g' (spares_fresh xs cols h spares)) in
       step3 ∙ step2 ∙ omega (arith, low, same_size, own_some j xs)

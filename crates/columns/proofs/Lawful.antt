@@ -2,7 +2,7 @@
 -- Assumes nothing.
 use Rattle.std.proofs.Common.{◌≡◌, ℕ, zero, suc, ◌≤◌, max, true, List, length, get_or, replicate, sym, refl, ap, ◌∙◌, le_refl, arith}
 use lib.ListN.{length-replicate}
-use Rattle.std.specs.List.{AllByRecursion as All}
+use Rattle.std.specs.List.{AllByRecursion}
 use Rattle.std.proofs.ByRecursion.{All-weaker, All-get_or}
 use Rattle.std.proofs.lemmas.List.{length-map}
 use Rattle.std.proofs.lemmas.Bool.{false≢true}
@@ -30,7 +30,7 @@ free_at (Fixed f) e = absurd (false≢true e)
 zero_max : (n : ℕ) → max 0 n ≡ n
 zero_max n = omega arith
 
-pub columns_are_lawful : (q : ℕ) (cols : List Column) (xs : List Want) → All (Fits 31 (length cols)) xs → Lawful q cols xs
+pub columns_are_lawful : (q : ℕ) (cols : List Column) (xs : List Want) → AllByRecursion (Fits 31 (length cols)) xs → Lawful q cols xs
 columns_are_lawful q cols xs fits =
     record {
       many = columns_stay 31 q cols xs;
@@ -74,7 +74,7 @@ raises_never_lower q =
       span = λ x cs settled j. record { least = no_less (grown_span q x cs) j; greatest = no_narrower (widened_span q x cs settled) j };
     }
 
-pub rows_are_stacked : (q n : ℕ) (xs : List Want) → All (Fits 63 n) xs → Stacked q n xs
+pub rows_are_stacked : (q n : ℕ) (xs : List Want) → AllByRecursion (Fits 63 n) xs → Stacked q n xs
 unfolding extent
 rows_are_stacked q n xs fits =
     let cols : List Column = replicate n blank_column in

@@ -1,7 +1,7 @@
 -- The laws of the offer.
 use Rattle.std.proofs.Common.{◌≡◌, ℕ, zero, suc, ◌+◌, ◌-◌, ◌*◌, ◌<◌, ◌≤◌, cond, leb, List, [], ◌∷◌, length, get_or, take, sym, refl, ap, ◌∙◌, ap₂, inl, inr, le_of_eq, le_refl, mul_comm, zero-add, zero-mul, arith}
 use native.Mathlib.Nat.{sub_self}
-use Rattle.std.specs.List.{AllByRecursion as All}
+use Rattle.std.specs.List.{AllByRecursion}
 use Rattle.std.proofs.lemmas.List.{length-map}
 use Rattle.std.proofs.lemmas.Bool.{cases_lt, cond-true, le-leb, cond_both, leb-true, leb-false}
 use Rattle.share.specs.Share.{total, parts, stretch}
@@ -23,11 +23,11 @@ getD_sums (x ∷ xs) [] h j = omega arith
 getD_sums (x ∷ xs) (y ∷ ys) h zero = refl
 getD_sums (x ∷ xs) (y ∷ ys) h (suc j) = getD_sums xs ys (omega arith) j
 
-total_spreads : (cs : List Column) → All Ordered cs → total (leasts cs) + total (spreads cs) ≡ total (greatests cs)
+total_spreads : (cs : List Column) → AllByRecursion Ordered cs → total (leasts cs) + total (spreads cs) ≡ total (greatests cs)
 total_spreads [] o = refl
 total_spreads (c ∷ cs) o = omega (arith, total_spreads cs o.1)
 
-getD_spreads : (cs : List Column) → All Ordered cs → (j : ℕ) → get_or (leasts cs) j 0 + get_or (spreads cs) j 0 ≡ get_or (greatests cs) j 0
+getD_spreads : (cs : List Column) → AllByRecursion Ordered cs → (j : ℕ) → get_or (leasts cs) j 0 + get_or (spreads cs) j 0 ≡ get_or (greatests cs) j 0
 getD_spreads [] o j = refl
 getD_spreads (c ∷ cs) o zero = omega arith
 getD_spreads (c ∷ cs) o (suc j) = getD_spreads cs o.1 j
@@ -35,7 +35,7 @@ getD_spreads (c ∷ cs) o (suc j) = getD_spreads cs o.1 j
 lengths : (W : ℕ) (cs : List Column) → length (leasts cs) ≡ length (parts W (spreads cs))
 lengths W cs = omega (arith, (shares_are_fair W (spreads cs)).many, length-map cs (λ c. c.least), length-map cs (λ c. c.greatest - c.least))
 
-pub offer_is_filled : (q : ℕ) (cs : List Column) (A : ℕ) → All Ordered cs → least_width q cs ≤ A → A ≤ greatest_width q cs → total (widths_of q cs A) + around q cs ≡ A
+pub offer_is_filled : (q : ℕ) (cs : List Column) (A : ℕ) → AllByRecursion Ordered cs → least_width q cs ≤ A → A ≤ greatest_width q cs → total (widths_of q cs A) + around q cs ≡ A
 unfolding widths_of
 offer_is_filled q cs A o lo hi =
     let L : ℕ = least_width q cs in
@@ -52,7 +52,7 @@ offer_is_filled q cs A o lo hi =
     let pos : 0 < total (spreads cs) = omega (arith, leb-false A L e, leb-false G A d) in
     omega (arith, (shares_are_fair W (spreads cs)).whole pos, total_sums (leasts cs) (parts W (spreads cs)) (lengths W cs))))
 
-pub widths_stay_between : (q : ℕ) (cs : List Column) (A : ℕ) → All Ordered cs → (j : ℕ) → (get_or (leasts cs) j 0 ≤ get_or (widths_of q cs A) j 0) × (get_or (widths_of q cs A) j 0 ≤ get_or (greatests cs) j 0)
+pub widths_stay_between : (q : ℕ) (cs : List Column) (A : ℕ) → AllByRecursion Ordered cs → (j : ℕ) → (get_or (leasts cs) j 0 ≤ get_or (widths_of q cs A) j 0) × (get_or (widths_of q cs A) j 0 ≤ get_or (greatests cs) j 0)
 unfolding widths_of
 widths_stay_between q cs A o j =
     let L : ℕ = least_width q cs in
@@ -84,7 +84,7 @@ more q cs A lo l =
     (λ d. absurd (omega (arith, leb-false G A d))))
 
 -- an offer of at least the least width is not exceeded
-pub offer_not_exceeded : (q : ℕ) (cs : List Column) (A : ℕ) → All Ordered cs → least_width q cs ≤ A → total (widths_of q cs A) + around q cs ≤ A
+pub offer_not_exceeded : (q : ℕ) (cs : List Column) (A : ℕ) → AllByRecursion Ordered cs → least_width q cs ≤ A → total (widths_of q cs A) + around q cs ≤ A
 offer_not_exceeded q cs A o lo =
     elim (cases_lt (greatest_width q cs) A) [
       | inl l ↦ more q cs A lo l
@@ -125,18 +125,18 @@ unfolding widths_of
 offer_short q cs A h = cond-true (leb A (least_width q cs)) (leasts cs) _ (le-leb A (least_width q cs) h)
 
 -- offered the greatest width or more, each column has its greatest
-total_ordered : (cs : List Column) → All Ordered cs → total (leasts cs) ≤ total (greatests cs)
+total_ordered : (cs : List Column) → AllByRecursion Ordered cs → total (leasts cs) ≤ total (greatests cs)
 total_ordered [] o = le_refl 0
 total_ordered (c ∷ cs) o = omega (arith, o.0, total_ordered cs o.1)
 
-no_spread : (cs : List Column) → All Ordered cs → total (greatests cs) ≤ total (leasts cs) → leasts cs ≡ greatests cs
+no_spread : (cs : List Column) → AllByRecursion Ordered cs → total (greatests cs) ≤ total (leasts cs) → leasts cs ≡ greatests cs
 no_spread [] o h = refl
 no_spread (c ∷ cs) o h =
     let t = total_ordered cs o.1 in
     let k = o.0 in
     ap₂ (λ x xs. x ∷ xs) (omega arith) (no_spread cs o.1 (omega arith))
 
-pub offer_met : (q : ℕ) (cs : List Column) (A : ℕ) → All Ordered cs → greatest_width q cs ≤ A → widths_of q cs A ≡ greatests cs
+pub offer_met : (q : ℕ) (cs : List Column) (A : ℕ) → AllByRecursion Ordered cs → greatest_width q cs ≤ A → widths_of q cs A ≡ greatests cs
 unfolding widths_of
 offer_met q cs A o h =
     let L : ℕ = least_width q cs in
@@ -165,12 +165,12 @@ stretch_sums (suc i) k [] (y ∷ ys) h = omega arith
 stretch_sums (suc i) k (x ∷ xs) [] h = omega arith
 stretch_sums (suc i) k (x ∷ xs) (y ∷ ys) h = stretch_sums i k xs ys (omega arith)
 
-greatests_sums : (cs : List Column) → All Ordered cs → greatests cs ≡ sums (leasts cs) (spreads cs)
+greatests_sums : (cs : List Column) → AllByRecursion Ordered cs → greatests cs ≡ sums (leasts cs) (spreads cs)
 unfolding sums
 greatests_sums [] o = refl
 greatests_sums (c ∷ cs) o = let k = o.0 in ap₂ (λ x xs. x ∷ xs) (omega arith) (greatests_sums cs o.1)
 
-pub offer_is_fair : (q : ℕ) (cs : List Column) (A : ℕ) → All Ordered cs → least_width q cs ≤ A → A ≤ greatest_width q cs → 0 < total (spreads cs) → (i k : ℕ) → ((stretch i k (widths_of q cs A) - stretch i k (leasts cs)) * total (spreads cs) < (A - least_width q cs) * stretch i k (spreads cs) + total (spreads cs)) × ((A - least_width q cs) * stretch i k (spreads cs) < (stretch i k (widths_of q cs A) - stretch i k (leasts cs)) * total (spreads cs) + total (spreads cs))
+pub offer_is_fair : (q : ℕ) (cs : List Column) (A : ℕ) → AllByRecursion Ordered cs → least_width q cs ≤ A → A ≤ greatest_width q cs → 0 < total (spreads cs) → (i k : ℕ) → ((stretch i k (widths_of q cs A) - stretch i k (leasts cs)) * total (spreads cs) < (A - least_width q cs) * stretch i k (spreads cs) + total (spreads cs)) × ((A - least_width q cs) * stretch i k (spreads cs) < (stretch i k (widths_of q cs A) - stretch i k (leasts cs)) * total (spreads cs) + total (spreads cs))
 unfolding widths_of
 offer_is_fair q cs A o lo hi pos i k =
     let L : ℕ = least_width q cs in

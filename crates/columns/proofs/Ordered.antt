@@ -1,6 +1,6 @@
 -- After the column pass no column's least is above its greatest.
 use Rattle.std.proofs.Common.{ℕ, zero, suc, ◌+◌, ◌≤◌, eqb, List, [], ◌∷◌, map, take, le_refl, arith}
-use Rattle.std.specs.List.{AllByRecursion as All}
+use Rattle.std.specs.List.{AllByRecursion}
 use Rattle.std.proofs.ByRecursion.{All-append, All-take, All-drop}
 use Rattle.std.proofs.lemmas.Bool.{cond_both}
 use Rattle.plan.specs.declared.record.Column.{Column}
@@ -10,7 +10,7 @@ use Rattle.columns.specs.Laws.{Ordered}
 
 -- f keeps the columns ordered
 abbrev Keeps : (List Column → List Column) → Type 0
-Keeps f = (cs : List Column) → All Ordered cs → All Ordered (f cs)
+Keeps f = (cs : List Column) → AllByRecursion Ordered cs → AllByRecursion Ordered (f cs)
 
 keeps_over : (f : List Column → List Column) → Keeps f → (i k : ℕ) → Keeps (over f i k)
 unfolding over
@@ -35,11 +35,11 @@ keeps_meet q x cs o =
     (keeps_with more_least
     (λ p c h. cond_both (free c) _ _ (λ g. c.least + p ≤ g) (λ e. omega arith) (λ e. le_refl (c.least + p))) _ cs o)
 
-keeps_each_of : (s : ℕ) (f : Want → List Column → List Column) (xs : List Want) → All (λ x. Keeps (f x)) xs → Keeps (each_of s f xs)
+keeps_each_of : (s : ℕ) (f : Want → List Column → List Column) (xs : List Want) → AllByRecursion (λ x. Keeps (f x)) xs → Keeps (each_of s f xs)
 unfolding each_of
 keeps_each_of s f [] h cs o = o
 keeps_each_of s f (x ∷ xs) h cs o =
-    keeps_each_of s f xs h.1 _ (cond_both (eqb x.span s) (f x cs) cs (All Ordered) (λ e. h.0 cs o) (λ e. o))
+    keeps_each_of s f xs h.1 _ (cond_both (eqb x.span s) (f x cs) cs (AllByRecursion Ordered) (λ e. h.0 cs o) (λ e. o))
 
 keeps_spans : (q n s : ℕ) (xs : List Want) → Keeps (spans (raise_span q) n s xs)
 unfolding spans
@@ -47,19 +47,19 @@ keeps_spans q zero s xs cs o = o
 keeps_spans q (suc n) s xs cs o =
     keeps_spans q n (suc s) xs _ (keeps_each_of s (raise_span q) xs (each xs) cs o)
   where
-    each : (ys : List Want) → All (λ x. Keeps (raise_span q x)) ys
+    each : (ys : List Want) → AllByRecursion (λ x. Keeps (raise_span q x)) ys
     each [] = tt
     each (y ∷ ys) = (keeps_over _ (keeps_meet q y) y.first y.span, each ys)
 
-ones_keep : (xs : List Want) → All (λ (x : Want). x.minimum ≤ x.maximum) xs → All (λ x. Keeps (raise_one x)) xs
+ones_keep : (xs : List Want) → AllByRecursion (λ (x : Want). x.minimum ≤ x.maximum) xs → AllByRecursion (λ x. Keeps (raise_one x)) xs
 ones_keep [] h = tt
 ones_keep (x ∷ xs) h = (keeps_over _ (keeps_map (raised_to x) (λ c o. omega arith)) x.first 1, ones_keep xs h.1)
 
-fresh_ordered : (cs : List Column) → All Ordered (map fresh cs)
+fresh_ordered : (cs : List Column) → AllByRecursion Ordered (map fresh cs)
 fresh_ordered [] = tt
 fresh_ordered (c ∷ cs) = (le_refl 1, fresh_ordered cs)
 
-pub columns_are_ordered : (top q : ℕ) (cols : List Column) (xs : List Want) → All (λ (x : Want). x.minimum ≤ x.maximum) xs → All Ordered (pass top q cols xs)
+pub columns_are_ordered : (top q : ℕ) (cols : List Column) (xs : List Want) → AllByRecursion (λ (x : Want). x.minimum ≤ x.maximum) xs → AllByRecursion Ordered (pass top q cols xs)
 unfolding pass
 columns_are_ordered top q cols xs h =
     keeps_spans q top 2 xs _

@@ -1,7 +1,7 @@
 -- The row rule is the column rule where no column is fixed, so that its laws hold of rows too.
 use Rattle.std.proofs.Common.{◌≡◌, ℕ, zero, suc, ◌+◌, ◌-◌, ◌*◌, ◌≤◌, max, Bool, true, false, cond, eqb, List, [], ◌∷◌, ◌++◌, map, length, take, drop, replicate, sym, refl, ap, ◌∙◌, subst, ap₂, arith}
 use lib.ListN.{length-replicate}
-use Rattle.std.specs.List.{AllByRecursion as All}
+use Rattle.std.specs.List.{AllByRecursion}
 use Rattle.std.proofs.ByRecursion.{All-take, All-weaker}
 use Rattle.std.proofs.lemmas.List.{take-map, drop-map, length-map}
 use Rattle.std.proofs.lemmas.Bool.{cond-true}
@@ -17,7 +17,7 @@ use Rattle.columns.specs.Laws.{Fits, Served}
 use Rattle.columns.proofs.Served.{leasts_widened, minimums_are_met}
 
 abbrev AllFree : List Column → Type 0
-AllFree cs = All (λ (c : Column). c.sizing ≡ Free) cs
+AllFree cs = AllByRecursion (λ (c : Column). c.sizing ≡ Free) cs
 
 free_grown : {cs ds : List Column} → Grown cs ds → AllFree cs → AllFree ds
 free_grown none f = tt
@@ -122,28 +122,28 @@ leasts_spanned : (i k : ℕ) (cs : List Column) → take k (drop i (leasts cs)) 
 leasts_spanned i k cs = ap (take k) (drop-map (λ (c : Column). c.least) i cs) ∙ take-map (λ (c : Column). c.least) k (drop i cs)
 
 -- every cell has room in the rows that it spans
-pub rows_have_room : (q n : ℕ) (xs : List Want) → All (Fits 63 n) xs → All (λ (x : Want). x.minimum ≤ total (take x.span (drop x.first (rows_of q n xs))) + (x.span - 1) * q) xs
+pub rows_have_room : (q n : ℕ) (xs : List Want) → AllByRecursion (Fits 63 n) xs → AllByRecursion (λ (x : Want). x.minimum ≤ total (take x.span (drop x.first (rows_of q n xs))) + (x.span - 1) * q) xs
 rows_have_room q n xs fits =
     let cols : List Column = replicate n blank_column in
     let end : List Column = pass 63 q cols xs in
-    let served = minimums_are_met 63 q cols xs (subst (λ k. All (Fits 63 k) xs) (sym (length-replicate n blank_column)) fits) in
+    let served = minimums_are_met 63 q cols xs (subst (λ k. AllByRecursion (Fits 63 k) xs) (sym (length-replicate n blank_column)) fits) in
     All-weaker (Served q end) (λ (x : Want). x.minimum ≤ total (take x.span (drop x.first (rows_of q n xs))) + (x.span - 1) * q)
     (λ x h. subst (λ hs. x.minimum ≤ total (take x.span (drop x.first hs)) + (x.span - 1) * q) (rows_are_columns q n xs) (subst (λ hs. x.minimum ≤ total hs + (x.span - 1) * q) (sym (leasts_spanned x.first x.span end)) h))
     xs served
 
-least_some : {cs ds : List Column} → Grown cs ds → All (λ (c : Column). 1 ≤ c.least) cs → All (λ h. 1 ≤ h) (leasts ds)
+least_some : {cs ds : List Column} → Grown cs ds → AllByRecursion (λ (c : Column). 1 ≤ c.least) cs → AllByRecursion (λ h. 1 ≤ h) (leasts ds)
 least_some none o = tt
 least_some (more h t) o = (omega (arith, h.0, o.0), least_some t o.1)
 
-fresh_some : (n : ℕ) → All (λ (c : Column). 1 ≤ c.least) (map fresh (replicate n blank_column))
+fresh_some : (n : ℕ) → AllByRecursion (λ (c : Column). 1 ≤ c.least) (map fresh (replicate n blank_column))
 fresh_some zero = tt
 fresh_some (suc n) = (omega arith, fresh_some n)
 
 -- no row is lower than 1
-pub rows_are_some : (q n : ℕ) (xs : List Want) → All (λ h. 1 ≤ h) (rows_of q n xs)
+pub rows_are_some : (q n : ℕ) (xs : List Want) → AllByRecursion (λ h. 1 ≤ h) (rows_of q n xs)
 unfolding pass
 rows_are_some q n xs =
     let cs : List Column = map fresh (replicate n blank_column) in
     let ds : List Column = each_of 1 raise_one xs cs in
     let g = grown_trans (grown_each_of 1 raise_one grown_one xs cs) (grown_trans (grown_held ds) (grown_spans q 63 2 xs (map held ds))) in
-    subst (All (λ h. 1 ≤ h)) (rows_are_columns q n xs) (least_some g (fresh_some n))
+    subst (AllByRecursion (λ h. 1 ≤ h)) (rows_are_columns q n xs) (least_some g (fresh_some n))

@@ -1,6 +1,6 @@
 -- After the column pass every cell has its minimum.
 use Rattle.std.proofs.Common.{◌≡◌, ℕ, zero, suc, ◌+◌, ◌-◌, ◌*◌, ◌<◌, ◌≤◌, true, cond, eqb, List, [], ◌∷◌, map, length, take, drop, sym, refl, ap, ◌∙◌, subst, inl, inr, arith}
-use Rattle.std.specs.List.{AllByRecursion as All}
+use Rattle.std.specs.List.{AllByRecursion}
 use Rattle.std.proofs.lemmas.List.{take_at, length-take-le, length-drop, length-map}
 use Rattle.std.proofs.lemmas.Bool.{cond-true, cases_eq, cases_Bool, eq-eqb, eqb-false}
 use Rattle.share.specs.Share.{total, parts}
@@ -11,11 +11,11 @@ use Rattle.columns.specs.Columns.{leasts, over, spanned, fresh, raised_to, raise
 use Rattle.columns.specs.Laws.{Fits, Served}
 use Rattle.columns.proofs.Grown.{Grown, grown_trans, grown_length, grown_sizing, still_served, grown_one, grown_span, grown_held, grown_meet, grown_each_of, grown_spans}
 
-pub all_of : {X : Type 0} (P : X → Type 0) → ((x : X) → P x) → (xs : List X) → All P xs
+pub all_of : {X : Type 0} (P : X → Type 0) → ((x : X) → P x) → (xs : List X) → AllByRecursion P xs
 all_of P h [] = tt
 all_of P h (x ∷ xs) = (h x, all_of P h xs)
 
-pub all_both : {X : Type 0} (P Q R : X → Type 0) → ((x : X) → P x → Q x → R x) → (xs : List X) → All P xs → All Q xs → All R xs
+pub all_both : {X : Type 0} (P Q R : X → Type 0) → ((x : X) → P x → Q x → R x) → (xs : List X) → AllByRecursion P xs → AllByRecursion Q xs → AllByRecursion R xs
 all_both P Q R h [] p q = tt
 all_both P Q R h (x ∷ xs) p q = (h x p.0 q.0, all_both P Q R h xs p.1 q.1)
 
@@ -90,7 +90,7 @@ serve_span q top x cs fits =
 module _ (q top N : ℕ) where
   each_of_serves : (s : ℕ) (f : Want → List Column → List Column) → ((x : Want) (cs : List Column) → Grown cs (f x cs)) →
       ((x : Want) (cs : List Column) → Fits top (length cs) x → x.span ≡ s → Served q (f x cs) x) →
-      (xs : List Want) (cs : List Column) → length cs ≡ N → All (Fits top N) xs → All (λ x. x.span ≡ s → Served q (each_of s f xs cs) x) xs
+      (xs : List Want) (cs : List Column) → length cs ≡ N → AllByRecursion (Fits top N) xs → AllByRecursion (λ x. x.span ≡ s → Served q (each_of s f xs cs) x) xs
   unfolding each_of
   each_of_serves s f g h [] cs l fits = tt
   each_of_serves s f g h (x ∷ xs) cs l fits =
@@ -104,8 +104,8 @@ module _ (q top N : ℕ) where
         each_of_serves s f g h xs ds (sym (grown_length gd) ∙ l) fits.1,
       )
 
-  spans_serve : (n s : ℕ) (xs : List Want) (cs : List Column) → length cs ≡ N → All (Fits top N) xs →
-      All (λ x. s ≤ x.span → x.span < s + n → Served q (spans (raise_span q) n s xs cs) x) xs
+  spans_serve : (n s : ℕ) (xs : List Want) (cs : List Column) → length cs ≡ N → AllByRecursion (Fits top N) xs →
+      AllByRecursion (λ x. s ≤ x.span → x.span < s + n → Served q (spans (raise_span q) n s xs cs) x) xs
   unfolding spans
   spans_serve zero s xs cs l fits = all_of _ (λ x lo hi. omega arith) xs
   spans_serve (suc n) s xs cs l fits =
@@ -121,7 +121,7 @@ module _ (q top N : ℕ) where
       ])
       xs here rest
 
-pub minimums_are_met : (top q : ℕ) (cols : List Column) (xs : List Want) → All (Fits top (length cols)) xs → All (Served q (pass top q cols xs)) xs
+pub minimums_are_met : (top q : ℕ) (cols : List Column) (xs : List Want) → AllByRecursion (Fits top (length cols)) xs → AllByRecursion (Served q (pass top q cols xs)) xs
 unfolding pass
 minimums_are_met top q cols xs fits =
     let N : ℕ = length cols in

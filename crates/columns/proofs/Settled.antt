@@ -1,7 +1,7 @@
 -- After the column pass a fixed column's least and greatest are one, and at least the fixed width.
 use Rattle.std.proofs.Common.{◌≡◌, ℕ, zero, suc, ◌+◌, ◌-◌, ◌*◌, ◌/◌, max, false, cond, eqb, List, [], ◌∷◌, map, take, sym, refl, add-zero, arith}
 use native.Mathlib.Nat.{sub_self}
-use Rattle.std.specs.List.{AllByRecursion as All}
+use Rattle.std.specs.List.{AllByRecursion}
 use Rattle.std.proofs.ByRecursion.{All-append, All-take, All-drop}
 use Rattle.std.proofs.lemmas.Bool.{cond_both, cond-false, both_ways}
 use Rattle.share.specs.Share.{parts_from}
@@ -11,7 +11,7 @@ use Rattle.columns.specs.Columns.{free, over, held, free_weights, with_parts, mo
 use Rattle.columns.specs.Laws.{Settled}
 
 abbrev Keeps : (List Column → List Column) → Type 0
-Keeps f = (cs : List Column) → All Settled cs → All Settled (f cs)
+Keeps f = (cs : List Column) → AllByRecursion Settled cs → AllByRecursion Settled (f cs)
 
 pub keeps_over : (f : List Column → List Column) → Keeps f → (i k : ℕ) → Keeps (over f i k)
 unfolding over
@@ -32,7 +32,7 @@ keeps_least (p ∷ ps) (c ∷ cs) o = (
 no_part : (W D b : ℕ) (c : Column) → free c ≡ false → W * (b + cond (free c) 1 0) / D - W * b / D ≡ 0
 no_part W D b c e = rw (cond-false {A = ℕ} (free c) 1 0 e, add-zero) (sub_self (W * b / D))
 
-keeps_greatest : (W D b : ℕ) (cs : List Column) → All Settled cs → All Settled (with_parts more_greatest (parts_from W D b (free_weights cs)) cs)
+keeps_greatest : (W D b : ℕ) (cs : List Column) → AllByRecursion Settled cs → AllByRecursion Settled (with_parts more_greatest (parts_from W D b (free_weights cs)) cs)
 unfolding with_parts parts_from
 keeps_greatest W D b [] o = tt
 keeps_greatest W D b (c ∷ cs) o = (
@@ -49,20 +49,20 @@ unfolding each_of
 keeps_each_of q s [] cs o = o
 keeps_each_of q s (x ∷ xs) cs o =
     keeps_each_of q s xs _
-    (cond_both (eqb x.span s) (raise_span q x cs) cs (All Settled) (λ e. keeps_over _ (keeps_meet q x) x.first x.span cs o) (λ e. o))
+    (cond_both (eqb x.span s) (raise_span q x cs) cs (AllByRecursion Settled) (λ e. keeps_over _ (keeps_meet q x) x.first x.span cs o) (λ e. o))
 
 keeps_spans : (q n s : ℕ) (xs : List Want) → Keeps (spans (raise_span q) n s xs)
 unfolding spans
 keeps_spans q zero s xs cs o = o
 keeps_spans q (suc n) s xs cs o = keeps_spans q n (suc s) xs _ (keeps_each_of q s xs cs o)
 
-pub held_settled : (cs : List Column) → All Settled (map held cs)
+pub held_settled : (cs : List Column) → AllByRecursion Settled (map held cs)
 held_settled [] = tt
 held_settled (c ∷ cs) = (
   cond_both (free c) c _ Settled (λ t f. absurd (both_ways (free c) f t)) (λ e _. (refl, omega arith)),
   held_settled cs,
 )
 
-pub fixed_are_settled : (top q : ℕ) (cols : List Column) (xs : List Want) → All Settled (pass top q cols xs)
+pub fixed_are_settled : (top q : ℕ) (cols : List Column) (xs : List Want) → AllByRecursion Settled (pass top q cols xs)
 unfolding pass
 fixed_are_settled top q cols xs = keeps_spans q top 2 xs _ (held_settled _)

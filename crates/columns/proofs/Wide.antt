@@ -1,6 +1,6 @@
 -- After the column pass every cell that spans a free column has its maximum.
 use Rattle.std.proofs.Common.{◌≡◌, ℕ, zero, suc, ◌+◌, ◌-◌, ◌*◌, ◌<◌, ◌≤◌, cond, eqb, List, [], ◌∷◌, ◌++◌, map, length, take, drop, sym, refl, ap, ◌∙◌, subst, ap₂, inl, inr, le_refl, arith}
-use Rattle.std.specs.List.{AllByRecursion as All}
+use Rattle.std.specs.List.{AllByRecursion}
 use Rattle.std.proofs.ByRecursion.{All-take, All-weaker}
 use Rattle.std.proofs.lemmas.List.{take-append-drop, length-take-le, length-drop, length-map, take-map, drop-map}
 use Rattle.std.proofs.lemmas.Bool.{cond_both, cond-true, cond-false, cases_eq, cases_Bool, eq-eqb}
@@ -50,7 +50,7 @@ still_wide q x g h = omega (arith, widened_total (widened_take x.span (widened_d
 
 -- ---- each step widens
 
-widened_over : (Q : Column → Type 0) (f : List Column → List Column) → ((ys : List Column) → All Q ys → Widened ys (f ys)) → (i k : ℕ) (xs : List Column) → All Q xs → Widened xs (over f i k xs)
+widened_over : (Q : Column → Type 0) (f : List Column → List Column) → ((ys : List Column) → AllByRecursion Q ys → Widened ys (f ys)) → (i k : ℕ) (xs : List Column) → AllByRecursion Q xs → Widened xs (over f i k xs)
 unfolding over
 widened_over Q f h zero k xs o =
     subst (λ zs. Widened zs (f (take k xs) ++ drop k xs)) (take-append-drop k xs) (widened_append (h (take k xs) (All-take Q k xs o)) (widened_refl (drop k xs)))
@@ -65,7 +65,7 @@ more_least_wide : (p : ℕ) (c : Column) → Settled c → c.greatest ≤ (more_
 more_least_wide p c s =
     cond_both (free c) _ _ (λ g. c.greatest ≤ g) (λ e. omega arith) (λ e. omega (arith, (s e).0))
 
-widened_least : (ps : List ℕ) (cs : List Column) → All Settled cs → Widened cs (with_parts more_least ps cs)
+widened_least : (ps : List ℕ) (cs : List Column) → AllByRecursion Settled cs → Widened cs (with_parts more_least ps cs)
 unfolding with_parts
 widened_least [] cs o = widened_refl cs
 widened_least (p ∷ ps) [] o = same
@@ -77,25 +77,25 @@ widened_greatest [] cs = widened_refl cs
 widened_greatest (p ∷ ps) [] = same
 widened_greatest (p ∷ ps) (c ∷ cs) = more_wide (omega arith) (widened_greatest ps cs)
 
-widened_meet : (q : ℕ) (x : Want) (cs : List Column) → All Settled cs → Widened cs (meet_maximum q x (meet_minimum q x cs))
+widened_meet : (q : ℕ) (x : Want) (cs : List Column) → AllByRecursion Settled cs → Widened cs (meet_maximum q x (meet_minimum q x cs))
 unfolding meet_maximum meet_minimum
 widened_meet q x cs o = widened_trans (widened_least _ cs o) (widened_greatest _ _)
 
-pub widened_span : (q : ℕ) (x : Want) (cs : List Column) → All Settled cs → Widened cs (raise_span q x cs)
+pub widened_span : (q : ℕ) (x : Want) (cs : List Column) → AllByRecursion Settled cs → Widened cs (raise_span q x cs)
 widened_span q x cs o = widened_over Settled _ (widened_meet q x) x.first x.span cs o
 
-settled_span : (q : ℕ) (x : Want) (cs : List Column) → All Settled cs → All Settled (raise_span q x cs)
+settled_span : (q : ℕ) (x : Want) (cs : List Column) → AllByRecursion Settled cs → AllByRecursion Settled (raise_span q x cs)
 settled_span q x cs o = keeps_over _ (keeps_meet q x) x.first x.span cs o
 
-widened_each : (q s : ℕ) (xs : List Want) (cs : List Column) → All Settled cs → Widened cs (each_of s (raise_span q) xs cs)
+widened_each : (q s : ℕ) (xs : List Want) (cs : List Column) → AllByRecursion Settled cs → Widened cs (each_of s (raise_span q) xs cs)
 unfolding each_of
 widened_each q s [] cs o = widened_refl cs
 widened_each q s (x ∷ xs) cs o =
     widened_trans
     (cond_both (eqb x.span s) (raise_span q x cs) cs (Widened cs) (λ e. widened_span q x cs o) (λ e. widened_refl cs))
-    (widened_each q s xs _ (cond_both (eqb x.span s) (raise_span q x cs) cs (All Settled) (λ e. settled_span q x cs o) (λ e. o)))
+    (widened_each q s xs _ (cond_both (eqb x.span s) (raise_span q x cs) cs (AllByRecursion Settled) (λ e. settled_span q x cs o) (λ e. o)))
 
-widened_spans : (q n s : ℕ) (xs : List Want) (cs : List Column) → All Settled cs → Widened cs (spans (raise_span q) n s xs cs)
+widened_spans : (q n s : ℕ) (xs : List Want) (cs : List Column) → AllByRecursion Settled cs → Widened cs (spans (raise_span q) n s xs cs)
 unfolding spans
 widened_spans q zero s xs cs o = widened_refl cs
 widened_spans q (suc n) s xs cs o = widened_trans (widened_each q s xs cs o) (widened_spans q n (suc s) xs _ (keeps_each_of q s xs cs o))
@@ -167,7 +167,7 @@ serve_span_wide q top x cs fits opn =
 -- ---- all cells of a span, and all spans
 
 module _ (q top N : ℕ) where
-  ones_wide : (xs : List Want) (cs : List Column) → length cs ≡ N → All (Fits top N) xs → All (λ x. x.span ≡ 1 → Wide q (each_of 1 raise_one xs cs) x) xs
+  ones_wide : (xs : List Want) (cs : List Column) → length cs ≡ N → AllByRecursion (Fits top N) xs → AllByRecursion (λ x. x.span ≡ 1 → Wide q (each_of 1 raise_one xs cs) x) xs
   unfolding each_of
   ones_wide [] cs l fits = tt
   ones_wide (x ∷ xs) cs l fits =
@@ -180,13 +180,13 @@ module _ (q top N : ℕ) where
         ones_wide xs ds (sym (grown_length gd) ∙ l) fits.1,
       )
 
-  each_wide : (s : ℕ) (xs : List Want) (cs : List Column) → All Settled cs → length cs ≡ N → All (Fits top N) xs → All (λ x. x.span ≡ s → Open x cs → Wide q (each_of s (raise_span q) xs cs) x) xs
+  each_wide : (s : ℕ) (xs : List Want) (cs : List Column) → AllByRecursion Settled cs → length cs ≡ N → AllByRecursion (Fits top N) xs → AllByRecursion (λ x. x.span ≡ s → Open x cs → Wide q (each_of s (raise_span q) xs cs) x) xs
   unfolding each_of
   each_wide s [] cs o l fits = tt
   each_wide s (x ∷ xs) cs o l fits =
       let ds : List Column = cond (eqb x.span s) (raise_span q x cs) cs in
       let gd : Grown cs ds = grown_each_of s (raise_span q) (grown_span q) (x ∷ []) cs in
-      let od : All Settled ds = keeps_each_of q s (x ∷ []) cs o in
+      let od : AllByRecursion Settled ds = keeps_each_of q s (x ∷ []) cs o in
       let rest = each_wide s xs ds od (sym (grown_length gd) ∙ l) fits.1 in (
         (λ e opn.
             let t : ds ≡ raise_span q x cs = cond-true (eqb x.span s) (raise_span q x cs) cs (eq-eqb x.span s e) in
@@ -195,13 +195,13 @@ module _ (q top N : ℕ) where
         All-weaker (λ y. y.span ≡ s → Open y ds → Wide q (each_of s (raise_span q) xs ds) y) (λ y. y.span ≡ s → Open y cs → Wide q (each_of s (raise_span q) xs ds) y) (λ y h e opn. h e (open_grown y gd opn)) xs rest,
       )
 
-  spans_wide : (n s : ℕ) (xs : List Want) (cs : List Column) → All Settled cs → length cs ≡ N → All (Fits top N) xs → All (λ x. s ≤ x.span → x.span < s + n → Open x cs → Wide q (spans (raise_span q) n s xs cs) x) xs
+  spans_wide : (n s : ℕ) (xs : List Want) (cs : List Column) → AllByRecursion Settled cs → length cs ≡ N → AllByRecursion (Fits top N) xs → AllByRecursion (λ x. s ≤ x.span → x.span < s + n → Open x cs → Wide q (spans (raise_span q) n s xs cs) x) xs
   unfolding spans
   spans_wide zero s xs cs o l fits = all_of _ (λ x lo hi. omega arith) xs
   spans_wide (suc n) s xs cs o l fits =
       let ds : List Column = each_of s (raise_span q) xs cs in
       let gd : Grown cs ds = grown_each_of s (raise_span q) (grown_span q) xs cs in
-      let od : All Settled ds = keeps_each_of q s xs cs o in
+      let od : AllByRecursion Settled ds = keeps_each_of q s xs cs o in
       let here = each_wide s xs cs o l fits in
       let rest = spans_wide n (suc s) xs ds od (sym (grown_length gd) ∙ l) fits in
       all_both (λ x. x.span ≡ s → Open x cs → Wide q ds x) (λ x. suc s ≤ x.span → x.span < suc s + n → Open x ds → Wide q (spans (raise_span q) n (suc s) xs ds) x)
@@ -232,7 +232,7 @@ held_open x (y ∷ []) l o =
     ]
 held_open x (y ∷ (z ∷ zs)) l o = absurd (omega arith)
 
-pub maximums_are_met : (top q : ℕ) (cols : List Column) (xs : List Want) → All (Fits top (length cols)) xs → All (λ x. Open x cols → Wide q (pass top q cols xs) x) xs
+pub maximums_are_met : (top q : ℕ) (cols : List Column) (xs : List Want) → AllByRecursion (Fits top (length cols)) xs → AllByRecursion (λ x. Open x cols → Wide q (pass top q cols xs) x) xs
 unfolding pass
 maximums_are_met top q cols xs fits =
     let N : ℕ = length cols in
@@ -241,7 +241,7 @@ maximums_are_met top q cols xs fits =
     let ds : List Column = each_of 1 raise_one xs cs in
     let es : List Column = map held ds in
     let end : List Column = spans (raise_span q) top 2 xs es in
-    let o : All Settled es = held_settled ds in
+    let o : AllByRecursion Settled es = held_settled ds in
     let g : Grown cs ds = grown_each_of 1 raise_one grown_one xs cs in
     let g' : Grown ds es = grown_held ds in
     let ones = ones_wide q top N xs cs l fits in

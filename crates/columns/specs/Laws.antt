@@ -1,6 +1,6 @@
 -- The laws of the columns, of the offer and of the rows.
 use Rattle.std.specs.Prelude.{◌≡◌, ℕ, suc, ◌+◌, ◌-◌, ◌*◌, ◌<◌, ◌≤◌, max, true, false, cond, ◌&&◌, List, [], ◌∷◌, map, length, get_or, ◌==◌, slice_index, slice_index_or}
-use Rattle.std.specs.List.{AllByRecursion as All}
+use Rattle.std.specs.List.{AllByRecursion}
 use Rattle.share.specs.Share.{total, stretch}
 use Rattle.plan.specs.declared.record.Column.{Column}
 use Rattle.plan.specs.Blank.{blank_column}
@@ -54,17 +54,17 @@ pub record Lawful (q : ℕ) (cols : List Column) (xs : List Want) : Type 0 where
   pub many : length (columns_of q cols xs) ≡ length cols
   pub sized : map (λ (c : Column). c.sizing) (columns_of q cols xs) ≡ map (λ (c : Column). c.sizing) cols
   -- every cell, of whatever span, has its minimum
-  pub met : All (Served q (columns_of q cols xs)) xs
+  pub met : AllByRecursion (Served q (columns_of q cols xs)) xs
   -- and its maximum, where one of its columns is free
-  pub wide : All (λ x. Open x cols → Wide q (columns_of q cols xs) x) xs
+  pub wide : AllByRecursion (λ x. Open x cols → Wide q (columns_of q cols xs) x) xs
   -- no least is above its greatest
-  pub ordered : All (λ (x : Want). x.minimum ≤ x.maximum) xs → All Ordered (columns_of q cols xs)
-  pub settled : All Settled (columns_of q cols xs)
+  pub ordered : AllByRecursion (λ (x : Want). x.minimum ≤ x.maximum) xs → AllByRecursion Ordered (columns_of q cols xs)
+  pub settled : AllByRecursion Settled (columns_of q cols xs)
   -- a column that no longer span raises is no wider than its own cells and its fixed width ask
-  pub exact : (j : ℕ) → j < length cols → All (Spares cols j) xs →
+  pub exact : (j : ℕ) → j < length cols → AllByRecursion (Spares cols j) xs →
       (get_or (columns_of q cols xs) j blank_column).least ≡ own_least (slice_index_or cols j blank_column) (own_minimum j xs)
   -- so with no longer span and no fixed column, each least is the largest minimum among its cells
-  pub plain : All (λ (x : Want). x.span ≡ 1) xs → All (λ c. free c ≡ true) cols → (j : ℕ) → j < length cols →
+  pub plain : AllByRecursion (λ (x : Want). x.span ≡ 1) xs → AllByRecursion (λ c. free c ≡ true) cols → (j : ℕ) → j < length cols →
       (get_or (columns_of q cols xs) j blank_column).least ≡ own_minimum j xs
 
 -- column j is no narrower in ds than in cs
@@ -75,20 +75,20 @@ pub record NoLower (cs ds : List Column) (j : ℕ) : Type 0 where
 -- A raise never lowers a column.
 pub record Rising (q : ℕ) : Type 0 where
   pub one : (x : Want) (cs : List Column) (j : ℕ) → NoLower cs (raise_one x cs) j
-  pub span : (x : Want) (cs : List Column) → All Settled cs → (j : ℕ) → NoLower cs (raise_span q x cs) j
+  pub span : (x : Want) (cs : List Column) → AllByRecursion Settled cs → (j : ℕ) → NoLower cs (raise_span q x cs) j
 
 -- What an offer of A gives the columns cs.
 pub record Offered (q : ℕ) (cs : List Column) (A : ℕ) : Type 0 where
   pub many : length (widths_of q cs A) ≡ length cs
   -- from the least to the greatest width the offer is filled exactly
-  pub filled : All Ordered cs → least_width q cs ≤ A → A ≤ greatest_width q cs → total (widths_of q cs A) + around q cs ≡ A
+  pub filled : AllByRecursion Ordered cs → least_width q cs ≤ A → A ≤ greatest_width q cs → total (widths_of q cs A) + around q cs ≡ A
   -- no column is below its least or above its greatest
-  pub between : All Ordered cs → (j : ℕ) → (slice_index (leasts cs) j ≤ slice_index (widths_of q cs A) j) × (slice_index (widths_of q cs A) j ≤ slice_index (greatests cs) j)
+  pub between : AllByRecursion Ordered cs → (j : ℕ) → (slice_index (leasts cs) j ≤ slice_index (widths_of q cs A) j) × (slice_index (widths_of q cs A) j ≤ slice_index (greatests cs) j)
   -- at most the least width gives the leasts, at least the greatest width gives the greatests
   pub short : A ≤ least_width q cs → widths_of q cs A ≡ leasts cs
-  pub ample : All Ordered cs → greatest_width q cs ≤ A → widths_of q cs A ≡ greatests cs
+  pub ample : AllByRecursion Ordered cs → greatest_width q cs ≤ A → widths_of q cs A ≡ greatests cs
   -- what a stretch of neighbours grows past its leasts is off its exact share, by its spreads, by less than 1
-  pub fair : All Ordered cs → least_width q cs ≤ A → A ≤ greatest_width q cs → 0 < total (spreads cs) → (i k : ℕ) →
+  pub fair : AllByRecursion Ordered cs → least_width q cs ≤ A → A ≤ greatest_width q cs → 0 < total (spreads cs) → (i k : ℕ) →
       ((stretch i k (widths_of q cs A) - stretch i k (leasts cs)) * total (spreads cs) < (A - least_width q cs) * stretch i k (spreads cs) + total (spreads cs))
       × ((A - least_width q cs) * stretch i k (spreads cs) < (stretch i k (widths_of q cs A) - stretch i k (leasts cs)) * total (spreads cs) + total (spreads cs))
 
@@ -96,6 +96,6 @@ pub record Offered (q : ℕ) (cs : List Column) (A : ℕ) : Type 0 where
 pub record Stacked (q n : ℕ) (xs : List Want) : Type 0 where
   pub many : length (rows_of q n xs) ≡ n
   -- every cell, of whatever span, has room for its height in its rows and the spacings between them
-  pub room : All (λ (x : Want). x.minimum ≤ extent q (rows_of q n xs) x.first x.span) xs
+  pub room : AllByRecursion (λ (x : Want). x.minimum ≤ extent q (rows_of q n xs) x.first x.span) xs
   -- no row is lower than 1
-  pub some : All (λ h. 1 ≤ h) (rows_of q n xs)
+  pub some : AllByRecursion (λ h. 1 ≤ h) (rows_of q n xs)

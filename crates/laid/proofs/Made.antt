@@ -1,7 +1,7 @@
 -- What each step of the layout sees, and what it leaves of a table.
 use Rattle.std.proofs.Common.{◌≡◌, ℕ, zero, suc, ◌<◌, min, Bool, true, false, cond, eqb, List, [], ◌∷◌, ◌++◌, map, length, take, drop, replicate, Some, None, filter, Option, sym, refl, ap, ◌∙◌, ap₂, arith}
 use mathlib.Core.List.{map-map, map-append}
-use Rattle.std.specs.List.{slice_get, AllByRecursion as All}
+use Rattle.std.specs.List.{slice_get, AllByRecursion}
 use Rattle.std.proofs.lemmas.List.{length-map, length-replicate, take-append-drop}
 use Rattle.shelf.specs.Shelves.{Meaning, largest}
 use Rattle.plan.specs.declared.record.Axis.TheVariants.{Columns, Rows}
@@ -45,7 +45,7 @@ module _ (m : Meaning) (l k : ℕ → ℕ) where
   height_same w (Content c) e = refl
   height_same w (Inner u) e = ap (λ n. min n largest) (e u refl)
 
-map_same : {X Y : Type 0} (f g : X → Y) (xs : List X) → All (λ x. f x ≡ g x) xs → map f xs ≡ map g xs
+map_same : {X Y : Type 0} (f g : X → Y) (xs : List X) → AllByRecursion (λ x. f x ≡ g x) xs → map f xs ≡ map g xs
 map_same f g [] a = refl
 map_same f g (x ∷ xs) a = ap₂ (λ y ys. y ∷ ys) a.0 (map_same f g xs a.1)
 

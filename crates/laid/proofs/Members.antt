@@ -1,6 +1,6 @@
 -- The cells of a table, and the cell that holds one.
 use Rattle.std.proofs.Common.{◌≡◌, ℕ, zero, suc, ◌+◌, ◌<◌, ◌≤◌, true, eqb, List, [], ◌∷◌, Some, None, sym, refl, ap, ◌∙◌, subst, inl, inr, arith}
-use Rattle.std.specs.List.{slice_get, AllByRecursion as All}
+use Rattle.std.specs.List.{slice_get, AllByRecursion}
 use Rattle.std.proofs.lemmas.Bool.{cond-true, cond-false, cases_Bool, eqb-true, eq-eqb, ne_eqb, false≢true}
 use Rattle.std.proofs.lemmas.Bool.Decides.{nat_tests}
 use Rattle.plan.specs.declared.record.Axis.{Axis}
@@ -34,10 +34,10 @@ passes Columns t b c a w e = grind (arith, nat_tests)
 passes Rows t b c a w e = grind (arith, nat_tests)
 
 module _ (P : Cell → Type 0) (x : Axis) (t : ℕ) (b : Table) (cs : List Cell) where
-  pub all_cells : ((i : ℕ) (c : Cell) → slice_get cs i ≡ Some c → Lies x t (track_count x b) c → P c) → All P (cells_of x t b cs)
+  pub all_cells : ((i : ℕ) (c : Cell) → slice_get cs i ≡ Some c → Lies x t (track_count x b) c → P c) → AllByRecursion P (cells_of x t b cs)
   all_cells h = all_kept _ P cs (λ i c e l. h i c e (lies x t (track_count x b) c l))
 
-  pub cell_in : All P (cells_of x t b cs) → Able b → (i : ℕ) (c : Cell) → slice_get cs i ≡ Some c → Within c b → c.table ≡ t → P c
+  pub cell_in : AllByRecursion P (cells_of x t b cs) → Able b → (i : ℕ) (c : Cell) → slice_get cs i ≡ Some c → Within c b → c.table ≡ t → P c
   cell_in a able i c e w q = all_nth _ cs (kept_all _ P cs a) i c e (passes x t b c able w q)
 
 -- ---- the cell that holds a table

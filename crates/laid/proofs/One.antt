@@ -1,7 +1,7 @@
 -- What holds of a table whose columns fit what its cells ask, and whose widths and heights fit the rules.
 use Rattle.std.proofs.Common.{◌≡◌, ℕ, ◌+◌, ◌-◌, ◌*◌, ◌≤◌, max, List, map, length, get_or, take, drop, Some, sym, ap, ◌∙◌, subst, inl, inr, arith}
 use mathlib.Core.List.{map-map}
-use Rattle.std.specs.List.{slice_get, AllByRecursion as All}
+use Rattle.std.specs.List.{slice_get, AllByRecursion}
 use Rattle.std.proofs.ByRecursion.{All-map}
 use Rattle.std.proofs.lemmas.List.{take-map, drop-map, length-map, length-take-le}
 use Rattle.std.proofs.lemmas.Bool.{cases_lt}
@@ -56,11 +56,11 @@ module _ (m : Meaning) (ts : List Table) (cs : List Cell) (t : ℕ) (b : Table) 
   unfolding ruled
   leasts_ruled = sym (map-map (λ (c : Column). c.least) bare (own_columns b)) ∙ ap leasts columns_are
 
-  pub ordered : All law.Ordered (own_columns b)
+  pub ordered : AllByRecursion law.Ordered (own_columns b)
   ordered =
-      let each : All (λ (x : Want). x.minimum ≤ x.maximum) (wants m ts cs t b) =
+      let each : AllByRecursion (λ (x : Want). x.minimum ≤ x.maximum) (wants m ts cs t b) =
       All-map (λ (x : Want). x.minimum ≤ x.maximum) (want_of m (least_in ts) (greatest_in ts)) _ (all_cells _ Columns t b cs (λ i c e l. omega arith)) in
-      all_mapped law.Ordered bare (own_columns b) (subst (All law.Ordered) (sym columns_are) (columns_are_ordered 31 b.spacing _ _ each))
+      all_mapped law.Ordered bare (own_columns b) (subst (AllByRecursion law.Ordered) (sym columns_are) (columns_are_ordered 31 b.spacing _ _ each))
 
   -- the leasts of a cell's columns, with the spacings between them, come to what it asks
   least_enough : (i : ℕ) (c : Cell) → slice_get cs i ≡ Some c → Within c b → c.table ≡ t →
@@ -71,7 +71,7 @@ module _ (m : Meaning) (ts : List Table) (cs : List Cell) (t : ℕ) (b : Table) 
       let xs : List Cell = cells_of Columns t b cs in
       let cols : List Column = map clear_column (own_columns b) in
       let n : length cols ≡ column-count b = length-map (own_columns b) clear_column ∙ columns_length b able in
-      let fits : All (law.Fits 31 (length cols)) (map want xs) =
+      let fits : AllByRecursion (law.Fits 31 (length cols)) (map want xs) =
       All-map (law.Fits 31 (length cols)) want xs (all_cells _ Columns t b cs (λ k d p l. (l.some, l.few, omega (arith, l.ends)))) in
       let all = all_mapped _ want xs (minimums_are_met 31 b.spacing cols (map want xs) fits) in
       let s : law.Served b.spacing ruled (want c) = cell_in _ Columns t b cs all able i c e w h in
@@ -118,7 +118,7 @@ unfolding extent
 tall_enough m ts cs t b able heights-are i c e w h =
     let want : Cell → Want = row_want m (height_in ts) b in
     let xs : List Cell = cells_of Rows t b cs in
-    let fits : All (law.Fits 63 (row_count b)) (map want xs) =
+    let fits : AllByRecursion (law.Fits 63 (row_count b)) (map want xs) =
     All-map (law.Fits 63 (row_count b)) want xs (all_cells _ Rows t b cs (λ k d p l. (l.some, l.few, l.ends))) in
     let all = all_mapped _ want xs (rows_have_room b.spacing (row_count b) (map want xs) fits) in
     omega (arith, cell_in _ Rows t b cs all able i c e w h, ap (stretch c.row c.down) heights-are)

@@ -1,6 +1,6 @@
 -- Which characters there are.
 use Rattle.std.proofs.Common.{◌≡◌, ℕ, zero, suc, ◌<◌, ◌≤◌, Bool, true, false, eqb, ltb, List, [], ◌∷◌, arith, lit≤}
-use Rattle.std.specs.List.{AllByRecursion as All}
+use Rattle.std.specs.List.{AllByRecursion}
 use Rattle.std.proofs.lemmas.Bool.{cond_both, and_parts, ltb-true}
 use Rattle.std.proofs.lemmas.Bool.Decides.{nat_tests}
 use Rattle.classes.specs.Classes.{white}
@@ -34,15 +34,15 @@ module _ (kind : Kind) where
   letter_shows bs =
       by_letter kind bs (λ v. Shows kind v.0) (λ _ _ _. (lit≤ tt, lit≤ tt)) (λ _ _ _. (lit≤ tt, lit≤ tt)) (λ _ _ _. (lit≤ tt, lit≤ tt)) (λ _ _ _. (lit≤ tt, lit≤ tt)) (itself_shows bs)
 
-  letters_show : (n : ℕ) (bs : List ℕ) → All (Shows kind) (letters_after kind n bs)
+  letters_show : (n : ℕ) (bs : List ℕ) → AllByRecursion (Shows kind) (letters_after kind n bs)
   letters_show n [] = tt
   letters_show zero (b ∷ bs) = (letter_shows (b ∷ bs), letters_show (letter_of kind (b ∷ bs)).1 bs)
   letters_show (suc n) (b ∷ bs) = letters_show n bs
 
-  sound_shows : (cs : List ℕ) → sound cs ≡ true → All (Shows kind) cs → All (λ c. parting kind c ≡ false → Seen c) cs
+  sound_shows : (cs : List ℕ) → sound cs ≡ true → AllByRecursion (Shows kind) cs → AllByRecursion (λ c. parting kind c ≡ false → Seen c) cs
   sound_shows [] e a = tt
   sound_shows (c ∷ cs) e a = let p = and_parts (ltb 0 c) (sound cs) e in (a.0 (ltb-true 0 c p.0), sound_shows cs p.1 a.1)
 
   -- every character that does not part words or lines can be shown
-  pub seen_letters : (bs : List ℕ) → sound (letters kind bs) ≡ true → All (λ c. parting kind c ≡ false → Seen c) (letters kind bs)
+  pub seen_letters : (bs : List ℕ) → sound (letters kind bs) ≡ true → AllByRecursion (λ c. parting kind c ≡ false → Seen c) (letters kind bs)
   seen_letters bs e = sound_shows (letters kind bs) e (letters_show 0 bs)

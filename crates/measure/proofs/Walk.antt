@@ -1,7 +1,7 @@
 -- The walk over the cells, span by span, is the pass that the rules say.
 -- Assumes nothing.
 use Rattle.std.proofs.Common.{◌≡◌, ℕ, zero, suc, ◌+◌, ◌-◌, ◌<◌, ◌≤◌, true, ◌&&◌, eqb, leb, List, [], ◌∷◌, ◌++◌, map, length, take, drop, sym, refl, ap, ◌∙◌, subst, inl, inr, arith}
-use Rattle.std.specs.List.{AllByRecursion as All}
+use Rattle.std.specs.List.{AllByRecursion}
 use Rattle.std.proofs.lemmas.List.{length-take-le, length-drop, length-map}
 use Rattle.std.proofs.lemmas.Bool.{cond-true, cond-false, cases_eq, cond_both, eq-eqb, ne_eqb, leb-true, and_parts}
 use Rattle.plan.specs.declared.record.Cell.{Cell}
@@ -51,14 +51,14 @@ module _ (q : ℕ) where
 each_as : (s : ℕ) (f g : Want → List Column → List Column) →
     ((x : Want) (cs : List Column) → x.span ≡ s → x.first + x.span ≤ length cs → f x cs ≡ g x cs) →
     ((x : Want) (cs : List Column) → length cs ≡ length (g x cs)) →
-    (xs : List Want) (cs : List Column) → All (Fits 31 (length cs)) xs → each_of s f xs cs ≡ each_of s g xs cs
+    (xs : List Want) (cs : List Column) → AllByRecursion (Fits 31 (length cs)) xs → each_of s f xs cs ≡ each_of s g xs cs
 unfolding each_of
 each_as s f g h k [] cs a = refl
 each_as s f g h k (x ∷ xs) cs a =
     elim (cases_eq x.span s) [
       | inl e ↦
           ap (λ ds. each_of s f xs ds) (cond-true (eqb x.span s) _ _ (eq-eqb x.span s e) ∙ h x cs e a.0.2)
-          ∙ each_as s f g h k xs (g x cs) (subst (λ n. All (Fits 31 n) xs) (k x cs) a.1)
+          ∙ each_as s f g h k xs (g x cs) (subst (λ n. AllByRecursion (Fits 31 n) xs) (k x cs) a.1)
           ∙ sym (ap (λ ds. each_of s g xs ds) (cond-true (eqb x.span s) _ _ (eq-eqb x.span s e)))
       | inr e ↦
           ap (λ ds. each_of s f xs ds) (cond-false (eqb x.span s) _ _ (ne_eqb x.span s e))
@@ -67,16 +67,16 @@ each_as s f g h k (x ∷ xs) cs a =
     ]
 
 module _ (q : ℕ) where
-  pub ones_as : (xs : List Want) (cs : List Column) → All (Fits 31 (length cs)) xs → each_of 1 (step q) xs cs ≡ each_of 1 raise_one xs cs
+  pub ones_as : (xs : List Want) (cs : List Column) → AllByRecursion (Fits 31 (length cs)) xs → each_of 1 (step q) xs cs ≡ each_of 1 raise_one xs cs
   ones_as xs cs a = each_as 1 (step q) raise_one (step_one q) (λ x ds. grown_length (grown_one x ds)) xs cs a
 
-  pub spans_as : (n s : ℕ) (xs : List Want) (cs : List Column) → 2 ≤ s → All (Fits 31 (length cs)) xs → spans (step q) n s xs cs ≡ spans (raise_span q) n s xs cs
+  pub spans_as : (n s : ℕ) (xs : List Want) (cs : List Column) → 2 ≤ s → AllByRecursion (Fits 31 (length cs)) xs → spans (step q) n s xs cs ≡ spans (raise_span q) n s xs cs
   unfolding spans
   spans_as zero s xs cs two a = refl
   spans_as (suc n) s xs cs two a =
       let e = each_as s (step q) (raise_span q) (λ x ds is h. step_span q x ds (λ one. absurd (omega arith)) h) (λ x ds. grown_length (grown_span q x ds)) xs cs a in
       let l = grown_length (grown_each_of s (raise_span q) (grown_span q) xs cs) in
-      ap (λ ds. spans (step q) n (suc s) xs ds) e ∙ spans_as n (suc s) xs (each_of s (raise_span q) xs cs) (omega arith) (subst (λ m. All (Fits 31 m) xs) l a)
+      ap (λ ds. spans (step q) n (suc s) xs ds) e ∙ spans_as n (suc s) xs (each_of s (raise_span q) xs cs) (omega arith) (subst (λ m. AllByRecursion (Fits 31 m) xs) l a)
 
 asks_fit : (t n : ℕ) (c : Cell) → asks_in t n c ≡ true → (1 ≤ c.across) × (c.across ≤ 32) × (c.column + c.across ≤ n)
 asks_fit t n c e =
@@ -86,11 +86,11 @@ asks_fit t n c e =
     (leb-true _ _ three.0, leb-true _ _ three.1, leb-true _ _ two.1)
 
 -- the cells that ask lie in the columns
-pub wants_fit : (t n : ℕ) (cs : List Cell) (as' : List Ask) → All (Fits 31 n) (wants t n cs as')
+pub wants_fit : (t n : ℕ) (cs : List Cell) (as' : List Ask) → AllByRecursion (Fits 31 n) (wants t n cs as')
 wants_fit t n [] as' = _
 wants_fit t n (c ∷ cs) [] = _
 wants_fit t n (c ∷ cs) (a ∷ as') =
-    cond_both (asks_in t n c) (want_of c a ∷ wants t n cs as') (wants t n cs as') (All (Fits 31 n))
+    cond_both (asks_in t n c) (want_of c a ∷ wants t n cs as') (wants t n cs as') (AllByRecursion (Fits 31 n))
     (λ is. (asks_fit t n c is, wants_fit t n cs as'))
     (λ not. wants_fit t n cs as')
 
@@ -120,7 +120,7 @@ walks_are_pass q t cells asks cs es fs gs hs ee ef eg eh =
     let at : ℕ → List Want = λ n. wants t n cells asks in
     let xs = at (length cs) in
     let le = ap length ee ∙ length-map cs fresh in
-    let fit : (n : ℕ) → n ≡ length cs → All (Fits 31 n) xs = λ n e. subst (λ m. All (Fits 31 m) xs) (sym e) (wants_fit t (length cs) cells asks) in
+    let fit : (n : ℕ) → n ≡ length cs → AllByRecursion (Fits 31 n) xs = λ n e. subst (λ m. AllByRecursion (Fits 31 m) xs) (sym e) (wants_fit t (length cs) cells asks) in
     let ones = ef ∙ ap (λ n. each_of 1 (step q) (at n) es) le ∙ ones_as q xs es (fit (length es) le) in
     let lf = ap length ones ∙ sym (grown_length (grown_each_of 1 raise_one grown_one xs es)) ∙ le in
     let lg = ap length eg ∙ length-map fs held ∙ lf in

@@ -1,6 +1,6 @@
 -- What the cells of a table ask, as the code has it: the cells, and beside each what it asks.
 use Rattle.std.specs.Prelude.{◌≡◌, ℕ, ◌+◌, max, Bool, true, cond, ◌&&◌, List, [], ◌∷◌, map, length, take, Some, None, Option, ◌==◌, ◌≢◌, nat_le, nat_lt, slice_index_or}
-use Rattle.std.specs.List.{AllByRecursion as All}
+use Rattle.std.specs.List.{AllByRecursion}
 use Rattle.plan.specs.declared.record.Cell.{Cell}
 use Rattle.plan.specs.declared.record.Column.{Column}
 use Rattle.plan.specs.declared.record.Table.{Table}
@@ -47,7 +47,7 @@ step q x cs = over (lifted q (record { least = x.minimum; greatest = x.maximum }
 
 -- no cell asks for s of the n columns of table t
 abbrev pub Absent : ℕ → ℕ → ℕ → List Cell → Type 0
-Absent t n s cs = All (λ c. asks_in t n c ≡ true → c.across ≢ s) cs
+Absent t n s cs = AllByRecursion (λ c. asks_in t n c ≡ true → c.across ≢ s) cs
 
 -- the columns that table b has
 abbrev pub own_columns : Table → List Column

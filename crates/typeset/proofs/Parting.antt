@@ -1,6 +1,6 @@
 -- The words of characters are those that the characters part into.
 use Rattle.std.proofs.Common.{◌≡◌, ℕ, false, not, List, [], ◌∷◌, ◌++◌, refl, ap, ◌∙◌, subst, arith}
-use Rattle.std.specs.List.{AllByRecursion as All}
+use Rattle.std.specs.List.{AllByRecursion}
 use Rattle.std.proofs.lemmas.List.{append_assoc}
 use Rattle.std.proofs.ByRecursion.{All-push}
 use Rattle.std.proofs.lemmas.Bool.{cond_both, cond-true, not-false}
@@ -19,11 +19,11 @@ parts_words nothing = refl
 parts_words (blank c cs ws e p) = cond-true (white c) _ _ e ∙ parts_words p
 parts_words (word v cs ws s e p) = parted_run [] v cs s.1 ∙ at_end v cs e ∙ closed_some v (words cs) s.0 ∙ ap (λ t. v ∷ t) (parts_words p)
 
-ends_here : (v cs : List ℕ) (ws : List (List ℕ)) → All Black v → inked cs ≡ false → Parts cs ws → Parts (v ++ cs) (closed v ws)
+ends_here : (v cs : List ℕ) (ws : List (List ℕ)) → AllByRecursion Black v → inked cs ≡ false → Parts cs ws → Parts (v ++ cs) (closed v ws)
 ends_here [] cs ws a e p = p
 ends_here (c ∷ v) cs ws a e p = word (c ∷ v) cs ws (omega arith, a) e p
 
-parted_parts : (v cs : List ℕ) → All Black v → Parts (v ++ cs) (parted v cs)
+parted_parts : (v cs : List ℕ) → AllByRecursion Black v → Parts (v ++ cs) (parted v cs)
 parted_parts v [] a = ends_here v [] [] a refl nothing
 parted_parts v (c ∷ cs) a =
     cond_both (white c) _ _ (Parts (v ++ c ∷ cs))

@@ -1,6 +1,6 @@
 -- How the lines of a block are found from byte to byte, and that they are what the bytes spell.
 use Rattle.std.proofs.Common.{◌≡◌, ℕ, zero, suc, ◌+◌, ◌<◌, ◌≤◌, max, Bool, true, false, cond, eqb, List, [], ◌∷◌, ◌++◌, length, get_or, drop, codes, sym, refl, ap, ◌∙◌, subst, arith}
-use Rattle.std.specs.List.{AllZip, AllByRecursion as All}
+use Rattle.std.specs.List.{AllZip, AllByRecursion}
 use Rattle.std.proofs.lemmas.Bool.{cond-false, cond_both, eqb-true}
 use Rattle.letters.specs.Letters.{letters_from, plain}
 use Rattle.letters.specs.Spelling.{Spells, nothing, byte, less, greater, ampersand, quote}
@@ -64,19 +64,19 @@ unlined_rows (c ∷ cs) =
     (λ e. unlined_break (rows cs) (rows_some cs) ∙ ap (λ t. 10 ∷ t) (unlined_rows cs) ∙ ap (λ d. d ∷ cs) (sym (eqb-true c 10 e)))
     (λ _. unlined_onto c (rows cs) ∙ ap (λ t. c ∷ t) (unlined_rows cs))
 
-each_onto : (Q : ℕ → Type 0) (c : ℕ) (ls : List (List ℕ)) → Q c → All (All Q) ls → All (All Q) (onto c ls)
+each_onto : (Q : ℕ → Type 0) (c : ℕ) (ls : List (List ℕ)) → Q c → AllByRecursion (AllByRecursion Q) ls → AllByRecursion (AllByRecursion Q) (onto c ls)
 each_onto Q c [] q a = ((q, tt), tt)
 each_onto Q c (l ∷ ls) q a = ((q, a.0), a.1)
 
 -- what holds of each character but newline holds of each character of the lines
-pub each_row : (Q : ℕ → Type 0) (cs : List ℕ) → All (λ c. eqb c 10 ≡ false → Q c) cs → All (All Q) (rows cs)
+pub each_row : (Q : ℕ → Type 0) (cs : List ℕ) → AllByRecursion (λ c. eqb c 10 ≡ false → Q c) cs → AllByRecursion (AllByRecursion Q) (rows cs)
 each_row Q [] a = (tt, tt)
 each_row Q (c ∷ cs) a =
-    cond_both (eqb c 10) _ _ (λ ls. All (All Q) ls)
+    cond_both (eqb c 10) _ _ (λ ls. AllByRecursion (AllByRecursion Q) ls)
     (λ _. (tt, each_row Q cs a.1))
     (λ e. each_onto Q c (rows cs) (a.0 e) (each_row Q cs a.1))
 
-itself_all : (cs : List ℕ) → All (λ c. eqb c 10 ≡ false → eqb c 10 ≡ false) cs
+itself_all : (cs : List ℕ) → AllByRecursion (λ c. eqb c 10 ≡ false → eqb c 10 ≡ false) cs
 itself_all [] = tt
 itself_all (c ∷ cs) = ((λ e. e), itself_all cs)
 

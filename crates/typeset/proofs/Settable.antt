@@ -1,6 +1,6 @@
 -- What texts and blocks have in common: their lines fit every width from their longest part on, and can be shown.
 use Rattle.std.proofs.Common.{◌≡◌, ℕ, zero, suc, ◌<◌, ◌≤◌, true, List, [], ◌∷◌, map, length, get_or, sym, refl, subst, ⊎_elim, arith, lit≤}
-use Rattle.std.specs.List.{AllByRecursion as All}
+use Rattle.std.specs.List.{AllByRecursion}
 use Rattle.std.proofs.lemmas.List.{length-map, get_or_past}
 use Rattle.std.proofs.lemmas.Bool.{cases_lt}
 use Rattle.letters.specs.Letters.{letters}
@@ -57,7 +57,7 @@ block_settable bs =
       ordered = omega arith;
       some = λ w. rows_some cs;
       fits = λ w r h. omega (arith, longest_at r (rows cs));
-      seen = λ e w r c. each_at Seen (get_or (rows cs) r []) c 32 (each_at (λ l. All Seen l) (rows cs) r [] (each_row Seen cs (seen_letters Block bs e)) tt) (lit≤ tt, lit≤ tt);
+      seen = λ e w r c. each_at Seen (get_or (rows cs) r []) c 32 (each_at (λ l. AllByRecursion Seen l) (rows cs) r [] (each_row Seen cs (seen_letters Block bs e)) tt) (lit≤ tt, lit≤ tt);
     }
 
 pub settable : (kind : Kind) (bs : List ℕ) → Settable (content kind bs)

@@ -1,6 +1,6 @@
 -- The lines of a block, which newlines part.
 use Rattle.std.specs.Prelude.{◌≡◌, ℕ, ◌<◌, false, cond, List, [], ◌∷◌, ◌++◌, length, ◌==◌}
-use Rattle.std.specs.List.{AllByRecursion as All}
+use Rattle.std.specs.List.{AllByRecursion}
 use Rattle.letters.specs.Letters.{letters_from}
 use Rattle.letters.specs.declared.Kind.TheVariants.{Block}
 use Rattle.typeset.specs.Lines.{onto}
@@ -24,4 +24,4 @@ unlined (l ∷ (m ∷ ms)) = l ++ (10 ∷ unlined (m ∷ ms))
 pub record Lined (cs : List ℕ) (ls : List (List ℕ)) : Type 0 where
   pub one : 0 < length ls
   pub all : unlined ls ≡ cs
-  pub parted : All (All (λ c. (c == 10) ≡ false)) ls
+  pub parted : AllByRecursion (AllByRecursion (λ c. (c == 10) ≡ false)) ls
