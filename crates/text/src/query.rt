@@ -1,5 +1,5 @@
 // The three queries, for texts and blocks alike.
-ghost use Rattle.std.specs.Prelude.{◌≡◌, ◌≤◌, true, false, ◌||◌, ltb, [], length, drop, if◌then◌else◌, Ok, Err, MatchOption, nat_lt, slice_index_or};
+ghost use Rattle.std.specs.Prelude.{◌≡◌, ◌≤◌, true, false, ◌||◌, [], length, drop, if◌then◌else◌, Ok, Err, MatchOption, nat_lt, slice_index_or};
 ghost use Rattle.fault.specs.Numbers.{fault};
 ghost use Rattle.fault.specs.declared.Reason.TheVariants.{UnfitWidth};
 ghost use Rattle.list.specs.Held.{items};
@@ -92,7 +92,7 @@ pub(crate) fn widths_of(
 
 // The height that was told, if the content can be set at width w.
 fn height_told(told: Survey, w: u16) -> Result<u16, Fault>
-    ensures { result ≡ (if ltb w told.least || nat_lt widest w then Err (fault UnfitWidth 0) else Ok told.high) }
+    ensures { result ≡ (if nat_lt w told.least || nat_lt widest w then Err (fault UnfitWidth 0) else Ok told.high) }
 {
     if w < told.least || w > WIDEST {
         return Err(Fault::new(Reason::UnfitWidth));

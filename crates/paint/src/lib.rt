@@ -1,3 +1,5 @@
 // The lines of a page, with every content in its box.
+#![tactic(auto)]
+
 mod band;
 mod check;

@@ -1,5 +1,5 @@
 -- The page law, place by place over the bytes of the slice.
-use Rattle.std.specs.Prelude.{◌≡◌, ℕ, ◌+◌, ◌-◌, ◌*◌, ◌<◌, ◌≤◌, List, length, Some, slice_index}
+use Rattle.std.specs.Prelude.{◌≡◌, ℕ, ◌+◌, ◌*◌, ◌<◌, List, length, Some, slice_index}
 use Rattle.std.specs.List.{slice_get}
 use Rattle.shelf.specs.Shelves.{Meaning}
 use Rattle.plan.specs.declared.record.Cell.{Cell}

@@ -20,7 +20,7 @@ pub(crate) trait Check {
 
 // The first fault of all cells, in the order of their numbers.
 pub(crate) fn check_all<C: Check>(check: &C, cells: &[Cell]) -> Result<(), Fault>
-    ensures { result ≡ unless (first_fault (wrong check.now) 0 cells.now) (Ok tt) }
+    ensures { result ≡ unless (first_fault (C.wrong check.now) 0 cells.now) (Ok tt) }
 {
     for (i, cell) in cells.iter().enumerate() {
         check.check(i, cell)?;
