@@ -95,8 +95,8 @@ meet_spares q x ys j h fixed some =
     let lw : length ws ≡ length ys = length-map ys (weight (none_free ys)) in
     let lp : length ps ≡ length ys = parts_length N (total ws) 0 ws ∙ lw in
     let none : none_free ys ≡ false = ne_eqb (total (free_weights ys)) 0 (λ z. omega arith) in
-    let zero-weight : get_or ws j 0 ≡ 0 = weight_at (none_free ys) ys j h ∙ ap (λ b. weight b (get_or ys j blank_column)) none ∙ cond-false (free (get_or ys j blank_column)) 1 0 fixed in
-    least_wider _ (with_parts more_least ps ys) j ∙ least_more ps ys j lp h ∙ omega (arith, part_none N ws j (omega arith) zero-weight)
+    let zero_weight : get_or ws j 0 ≡ 0 = weight_at (none_free ys) ys j h ∙ ap (λ b. weight b (get_or ys j blank_column)) none ∙ cond-false (free (get_or ys j blank_column)) 1 0 fixed in
+    least_wider _ (with_parts more_least ps ys) j ∙ least_more ps ys j lp h ∙ omega (arith, part_none N ws j (omega arith) zero_weight)
 
 -- ---- spans that spare the column
 
@@ -210,16 +210,16 @@ module _ (q : ℕ) (j : ℕ) where
             elim (cases_eq x.first j) [
               | inl here ↦
                   let at = one_at x cs fit here in
-                  let more-own : own_minimum j (x ∷ xs) ≡ max x.minimum own = cond-true (eqb x.span 1 && eqb x.first j) _ _ (ap (λ c. c && eqb x.first j) b ∙ eq-eqb x.first j here) in
+                  let more_own : own_minimum j (x ∷ xs) ≡ max x.minimum own = cond-true (eqb x.span 1 && eqb x.first j) _ _ (ap (λ c. c && eqb x.first j) b ∙ eq-eqb x.first j here) in
                   ap (λ ds. least_at (each_of 1 raise_one xs ds) j) t ∙ ones_least top xs (raise_one x cs) fits' (omega arith) ∙ omega arith
               | inr there ↦
                   let at = one_other x cs fit there in
-                  let less-own : own_minimum j (x ∷ xs) ≡ own = cond-false (eqb x.span 1 && eqb x.first j) _ _ (ap (λ c. c && eqb x.first j) b ∙ ne_eqb x.first j there) in
+                  let less_own : own_minimum j (x ∷ xs) ≡ own = cond-false (eqb x.span 1 && eqb x.first j) _ _ (ap (λ c. c && eqb x.first j) b ∙ ne_eqb x.first j there) in
                   ap (λ ds. least_at (each_of 1 raise_one xs ds) j) t ∙ ones_least top xs (raise_one x cs) fits' (omega arith) ∙ omega arith
             ]
         | inr e ↦
             let t : cond (eqb x.span 1) (raise_one x cs) cs ≡ cs = cond-false (eqb x.span 1) (raise_one x cs) cs (ne_eqb x.span 1 e) in
-            let less-own : own_minimum j (x ∷ xs) ≡ own = cond-false (eqb x.span 1 && eqb x.first j) _ _ (and_left (eqb x.span 1) (eqb x.first j) (ne_eqb x.span 1 e)) in
+            let less_own : own_minimum j (x ∷ xs) ≡ own = cond-false (eqb x.span 1 && eqb x.first j) _ _ (and_left (eqb x.span 1) (eqb x.first j) (ne_eqb x.span 1 e)) in
             ap (λ ds. least_at (each_of 1 raise_one xs ds) j) t ∙ ones_least top xs cs fits.1 some ∙ omega arith
       ]
 
@@ -241,10 +241,10 @@ module _ (q : ℕ) (j : ℕ) where
       let g : Grown cs ds = grown_each_of 1 raise_one grown_one xs cs in
       let g' : Grown cs es = grown_trans g (grown_held ds) in
       let hd : j < length ds = omega (arith, grown_length g) in
-      let at-fresh : get_or cs j blank_column ≡ fresh (get_or cols j blank_column) = get_or-map fresh cols j blank_column blank_column h in
-      let one : least_at cs j ≡ 1 = ap (λ (c : Column). c.least) at-fresh in
+      let at_fresh : get_or cs j blank_column ≡ fresh (get_or cols j blank_column) = get_or-map fresh cols j blank_column blank_column h in
+      let one : least_at cs j ≡ 1 = ap (λ (c : Column). c.least) at_fresh in
       let low = ones_least top xs cs fits' (omega arith) in
       let step2 : least_at es j ≡ max (fixed_of (get_or ds j blank_column)) (least_at ds j) = ap (λ (c : Column). c.least) (get_or-map held ds j blank_column blank_column hd) ∙ held_least (get_or ds j blank_column) in
-      let same_size : fixed_of (get_or ds j blank_column) ≡ fixed_of (get_or cols j blank_column) = ap fixed_at (sizing_at g j ∙ ap (λ (c : Column). c.sizing) at-fresh) in
+      let same_size : fixed_of (get_or ds j blank_column) ≡ fixed_of (get_or cols j blank_column) = ap fixed_at (sizing_at g j ∙ ap (λ (c : Column). c.sizing) at_fresh) in
       let step3 = spans_spares top top 2 xs es (omega arith) (subst (λ n. AllByRecursion (Fits top n) xs) (grown_length g') fits') (all_spares_grown xs g' (spares_fresh xs cols h spares)) in
       step3 ∙ step2 ∙ omega (arith, low, same_size, own_some j xs)

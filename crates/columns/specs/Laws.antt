@@ -1,5 +1,5 @@
 -- The laws of the columns, of the offer and of the rows.
-use Rattle.std.specs.Prelude.{◌≡◌, ℕ, suc, ◌+◌, ◌-◌, ◌*◌, ◌<◌, ◌≤◌, max, true, false, cond, ◌&&◌, List, [], ◌∷◌, map, length, get_or, ◌==◌, slice_index, slice_index_or}
+use Rattle.std.specs.Prelude.{◌≡◌, ℕ, suc, ◌+◌, ◌-◌, ◌*◌, ◌<◌, ◌≤◌, max, true, false, cond, ◌&&◌, List, [], ◌∷◌, map, length, ◌==◌, slice_index, slice_index_or}
 use Rattle.std.specs.List.{AllByRecursion}
 use Rattle.share.specs.Share.{total, stretch}
 use Rattle.plan.specs.declared.record.Column.{Column}
@@ -62,15 +62,15 @@ pub record Lawful (q : ℕ) (cols : List Column) (xs : List Want) : Type 0 where
   pub settled : AllByRecursion Settled (columns_of q cols xs)
   -- a column that no longer span raises is no wider than its own cells and its fixed width ask
   pub exact : (j : ℕ) → j < length cols → AllByRecursion (Spares cols j) xs →
-      (get_or (columns_of q cols xs) j blank_column).least ≡ own_least (slice_index_or cols j blank_column) (own_minimum j xs)
+      (slice_index_or (columns_of q cols xs) j blank_column).least ≡ own_least (slice_index_or cols j blank_column) (own_minimum j xs)
   -- so with no longer span and no fixed column, each least is the largest minimum among its cells
   pub plain : AllByRecursion (λ (x : Want). x.span ≡ 1) xs → AllByRecursion (λ c. free c ≡ true) cols → (j : ℕ) → j < length cols →
-      (get_or (columns_of q cols xs) j blank_column).least ≡ own_minimum j xs
+      (slice_index_or (columns_of q cols xs) j blank_column).least ≡ own_minimum j xs
 
 -- column j is no narrower in ds than in cs
 pub record NoLower (cs ds : List Column) (j : ℕ) : Type 0 where
-  pub least : get_or (leasts cs) j 0 ≤ slice_index (leasts ds) j
-  pub greatest : get_or (greatests cs) j 0 ≤ slice_index (greatests ds) j
+  pub least : slice_index (leasts cs) j ≤ slice_index (leasts ds) j
+  pub greatest : slice_index (greatests cs) j ≤ slice_index (greatests ds) j
 
 -- A raise never lowers a column.
 pub record Rising (q : ℕ) : Type 0 where

@@ -5,7 +5,7 @@ use Rattle.plan.specs.declared.record.Axis.TheVariants.{Columns, Rows}
 use Rattle.plan.specs.declared.record.Cell.{Cell}
 use Rattle.plan.specs.declared.record.Column.{Column}
 use Rattle.plan.specs.declared.record.Table.{Table}
-use Rattle.plan.specs.Steps.{from_to, columns_of as column-count}
+use Rattle.plan.specs.Steps.{from_to, columns_of as column_count}
 use Rattle.columns.specs.Columns.{over, columns_of, widths_of, rows_of}
 use Rattle.columns.specs.Wants.{Want}
 
@@ -15,12 +15,12 @@ row_count b = min b.reached 64
 
 -- how many tracks a table has
 abbrev pub track_count : Axis → Table → ℕ
-track_count Columns b = column-count b
+track_count Columns b = column_count b
 track_count Rows b = row_count b
 
 -- the columns that table b has
 abbrev pub own_columns : Table → List Column
-own_columns b = take (column-count b) b.columns
+own_columns b = take (column_count b) b.columns
 
 -- how wide they are, and how tall its rows
 abbrev pub widths : Table → List ℕ
@@ -57,7 +57,7 @@ lies_in x t n c = c.table == t && (from_to 1 (widest_span x) (span_of x c) && na
 abbrev pub with_columns : (List Column → List Column) → Table → Table
 with_columns f b =
     record {
-      columns = over f 0 (column-count b) b.columns;
+      columns = over f 0 (column_count b) b.columns;
       count = b.count;
       spacing = b.spacing;
       begun = b.begun;

@@ -96,9 +96,9 @@ module _ (m : Meaning) (A : ℕ) (ts : List Table) (cs : List Cell) (small : A �
         lowest = λ k l c x r w. on_shelf m (0 + k) c.holds x (h.below k c l r) w;
       })
 
-  module _ (none-missing : missing m cs ≡ None) where
+  module _ (none_missing : missing m cs ≡ None) where
     shelved : (i : ℕ) → Shelved m cs i
-    shelved i c k e h = on_shelf m (0 + i) c.holds k (found_none (λ j (d : Cell). off_shelf m j d.holds) 0 cs none-missing i c e) h
+    shelved i c k e h = on_shelf m (0 + i) c.holds k (found_none (λ j (d : Cell). off_shelf m j d.holds) 0 cs none_missing i c e) h
 
     -- ---- nothing is too wide
 
@@ -120,9 +120,9 @@ module _ (m : Meaning) (A : ℕ) (ts : List Table) (cs : List Cell) (small : A �
           highest = λ u l. narrow_at u (λ b k. h.above u b (omega arith) k);
         }
 
-    module _ (none-wide : highest too_wide 0 one ≡ None) where
+    module _ (none_wide : highest too_wide 0 one ≡ None) where
       narrow_one : (t : ℕ) → Narrow one t
-      narrow_one t = narrow_at t (highest_none too_wide 0 one none-wide t)
+      narrow_one t = narrow_at t (highest_none too_wide 0 one none_wide t)
 
       -- ---- every content can be set
 
@@ -161,9 +161,9 @@ module _ (m : Meaning) (A : ℕ) (ts : List Table) (cs : List Cell) (small : A �
 
       -- ---- accepted
 
-      module _ (none-tall : highest too_tall 0 three ≡ None) where
+      module _ (none_tall : highest too_tall 0 three ≡ None) where
         low : (t : ℕ) → Low three t
-        low t = low_at t (highest_none too_tall 0 three none-tall t)
+        low t = low_at t (highest_none too_tall 0 three none_tall t)
 
         good_end : Good three ends
         good_end = good three ends (planned_kept ts three cs ends (pass.same_three m A ts cs g) (pass.same_cells m A ts cs g) p)

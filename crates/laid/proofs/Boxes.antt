@@ -29,13 +29,13 @@ pub inner_tall : (m : Meaning) (ts : List Table) (cs : List Cell) → Good ts cs
     ((t : ℕ) (b : Table) → slice_get ts t ≡ Some b → heights b ≡ rows_of b.spacing (row_count b) (row_wants m ts cs t b)) →
     (i : ℕ) (c : Cell) (u : ℕ) (b d : Table) → slice_get cs i ≡ Some c → c.holds ≡ Inner u → slice_get ts c.table ≡ Some b → slice_get ts u ≡ Some d →
     whole d.spacing (heights d) ≤ tall_in b c
-inner_tall m ts cs g low heights-are i c u b d e h here there =
+inner_tall m ts cs g low heights_are i c u b d e h here there =
     omega (
       arith,
       low u d there,
       height_is ts u d there,
       ap (height_asked m (height_in ts) (wide_in b c)) h,
-      one.tall_enough m ts cs c.table b (g.able c.table b here) (heights-are c.table b here) i c e (g.within i c b e here) refl,
+      one.tall_enough m ts cs c.table b (g.able c.table b here) (heights_are c.table b here) i c e (g.within i c b e here) refl,
     )
 
 -- ---- the boxes
@@ -50,8 +50,8 @@ uncapped r a b c d =
 
 module _ (ts : List Table) (cs : List Cell) (g : Good ts cs)
     (narrow : (t : ℕ) (b : Table) → slice_get ts t ≡ Some b → whole b.spacing (widths b) ≤ widest) (low : (t : ℕ) → Low ts t)
-    (inner-narrow : (i : ℕ) (c : Cell) (u : ℕ) (d : Table) → slice_get cs i ≡ Some c → c.holds ≡ Inner u → slice_get ts u ≡ Some d → whole d.spacing (widths d) ≤ cell_width ts c)
-    (inner-low : (i : ℕ) (c : Cell) (u : ℕ) (b d : Table) → slice_get cs i ≡ Some c → c.holds ≡ Inner u → slice_get ts c.table ≡ Some b → slice_get ts u ≡ Some d →
+    (inner_narrow : (i : ℕ) (c : Cell) (u : ℕ) (d : Table) → slice_get cs i ≡ Some c → c.holds ≡ Inner u → slice_get ts u ≡ Some d → whole d.spacing (widths d) ≤ cell_width ts c)
+    (inner_low : (i : ℕ) (c : Cell) (u : ℕ) (b d : Table) → slice_get cs i ≡ Some c → c.holds ≡ Inner u → slice_get ts c.table ≡ Some b → slice_get ts u ≡ Some d →
     whole d.spacing (heights d) ≤ tall_in b c)
     (kept : (i : ℕ) (c : Cell) (b : Table) → slice_get cs i ≡ Some c → slice_get ts c.table ≡ Some b → c.rect ≡ kept_rect (rect_in b (corner cs (holder c.table cs)) c)) where
   -- table t, which is b, ends on the page
@@ -100,8 +100,8 @@ module _ (ts : List Table) (cs : List Cell) (g : Good ts cs)
       let left = ap (λ (z : ℕ × ℕ). z.0) k ∙ ap (λ (z : Rect). z.left) r in
       let top = ap (λ (z : ℕ × ℕ). z.1) k ∙ ap (λ (z : Rect). z.top) r in
       record {
-        right = omega (arith, p.right, cell_width_is ts c d w.1, inner-narrow h.number c (suc t) b h.there h.holds_it e);
-        bottom = omega (arith, p.bottom, inner-low h.number c (suc t) d b h.there h.holds_it w.1 e);
+        right = omega (arith, p.right, cell_width_is ts c d w.1, inner_narrow h.number c (suc t) b h.there h.holds_it e);
+        bottom = omega (arith, p.bottom, inner_low h.number c (suc t) d b h.there h.holds_it w.1 e);
       }
 
   pub boxes_are : (i : ℕ) (c : Cell) (b : Table) → slice_get cs i ≡ Some c → slice_get ts c.table ≡ Some b → c.rect ≡ rect_in b (corner cs (holder c.table cs)) c

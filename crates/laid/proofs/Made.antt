@@ -13,7 +13,7 @@ use Rattle.plan.specs.declared.record.Sizing.{Sizing}
 use Rattle.plan.specs.declared.record.Table.{Table}
 use Rattle.plan.specs.Blank.{blank_column}
 use Rattle.plan.specs.Planned.{Able}
-use Rattle.plan.specs.Steps.{columns_of as column-count}
+use Rattle.plan.specs.Steps.{columns_of as column_count}
 use Rattle.columns.specs.Columns.{over, pass, columns_of, rows_of, widths_of, least_width, greatest_width}
 use Rattle.columns.specs.Tables.{own_columns, widths, heights, row_count, lies_in, with_columns, measured, with_widths, given_of, offered_to, stacked}
 use Rattle.columns.specs.Tracks.{whole}
@@ -151,7 +151,7 @@ map_over h f n xs e =
 clear_with : (f : List Column → List Column) (b : Table) → map clear_column (f (own_columns b)) ≡ map clear_column (own_columns b) → clear_table (with_columns f b) ≡ clear_table b
 clear_with f b e =
     ap (λ cols. record { columns = cols; count = b.count; spacing = b.spacing; begun = b.begun; reached = b.reached; heights = map (λ _. 0) b.heights; taken = b.taken })
-    (map_over clear_column f (column-count b) b.columns e)
+    (map_over clear_column f (column_count b) b.columns e)
 
 bare_widened : (ws : List ℕ) (cs : List Column) → map bare (with_widths ws cs) ≡ map bare cs
 bare_widened [] cs = refl
@@ -179,7 +179,7 @@ rows_stay q n xs =
 module _ (cs : List Cell) (xs : List Table) (t : ℕ) (b : Table) where
   pub measure_own : (m : Meaning) → own_columns (measure m cs xs t b) ≡ columns_of b.spacing (own_columns b) (wants m xs cs t b)
   unfolding measure
-  measure_own m = take_over (λ cols. columns_of b.spacing cols (wants m xs cs t b)) (column-count b) b.columns (columns_stay 31 b.spacing (own_columns b) (wants m xs cs t b))
+  measure_own m = take_over (λ cols. columns_of b.spacing cols (wants m xs cs t b)) (column_count b) b.columns (columns_stay 31 b.spacing (own_columns b) (wants m xs cs t b))
 
   pub measure_clear : (m : Meaning) → clear_table (measure m cs xs t b) ≡ clear_table b
   unfolding measure
@@ -191,7 +191,7 @@ module _ (cs : List Cell) (xs : List Table) (t : ℕ) (b : Table) where
 
     widen_own : own_columns (widen A cs xs t b) ≡ with_widths given (own_columns b)
     unfolding widen
-    widen_own = take_over (given_of b.spacing (offer_of A cs xs t)) (column-count b) b.columns (as_many bare _ _ (bare_widened given (own_columns b)))
+    widen_own = take_over (given_of b.spacing (offer_of A cs xs t)) (column_count b) b.columns (as_many bare _ _ (bare_widened given (own_columns b)))
 
     pub widen_bare : map bare (own_columns (widen A cs xs t b)) ≡ map bare (own_columns b)
     widen_bare = ap (map bare) widen_own ∙ bare_widened given (own_columns b)

@@ -12,7 +12,7 @@ use Rattle.plan.specs.declared.record.Cell.{Cell}
 use Rattle.plan.specs.declared.record.Column.{Column}
 use Rattle.plan.specs.declared.record.Table.{Table}
 use Rattle.plan.specs.Planned.{Able, Within}
-use Rattle.plan.specs.Steps.{columns_of as column-count}
+use Rattle.plan.specs.Steps.{columns_of as column_count}
 use Rattle.columns.specs.Columns.{leasts, greatests, spreads, spanned, columns_of, rows_of, widths_of, least_width}
 use Rattle.columns.specs.Laws as law
 use Rattle.columns.specs.Tables.{own_columns, widths, heights, row_count}
@@ -34,10 +34,10 @@ use Rattle.laid.proofs.Tracks.{stretch_larger}
 -- ---- what a table has, by its plan
 
 module _ (b : Table) (able : Able b) where
-  columns_length : length (own_columns b) ≡ column-count b
-  columns_length = length-take-le (column-count b) b.columns (omega arith)
+  columns_length : length (own_columns b) ≡ column_count b
+  columns_length = length-take-le (column_count b) b.columns (omega arith)
 
-  pub widths_length : length (widths b) ≡ column-count b
+  pub widths_length : length (widths b) ≡ column_count b
   widths_length = length-map (own_columns b) (λ c. c.width) ∙ columns_length
 
   pub heights_length : length (heights b) ≡ row_count b
@@ -70,7 +70,7 @@ module _ (m : Meaning) (ts : List Table) (cs : List Cell) (t : ℕ) (b : Table) 
       let want : Cell → Want = want_of m (least_in ts) (greatest_in ts) in
       let xs : List Cell = cells_of Columns t b cs in
       let cols : List Column = map clear_column (own_columns b) in
-      let n : length cols ≡ column-count b = length-map (own_columns b) clear_column ∙ columns_length b able in
+      let n : length cols ≡ column_count b = length-map (own_columns b) clear_column ∙ columns_length b able in
       let fits : AllByRecursion (law.Fits 31 (length cols)) (map want xs) =
       All-map (law.Fits 31 (length cols)) want xs (all_cells _ Columns t b cs (λ k d p l. (l.some, l.few, omega (arith, l.ends)))) in
       let all = all_mapped _ want xs (minimums_are_met 31 b.spacing cols (map want xs) fits) in
@@ -115,10 +115,10 @@ module _ (m : Meaning) (ts : List Table) (cs : List Cell) (t : ℕ) (b : Table) 
 pub tall_enough : (m : Meaning) (ts : List Table) (cs : List Cell) (t : ℕ) (b : Table) → Able b → heights b ≡ rows_of b.spacing (row_count b) (row_wants m ts cs t b) →
     (i : ℕ) (c : Cell) → slice_get cs i ≡ Some c → Within c b → c.table ≡ t → height_asked m (height_in ts) (wide_in b c) c.holds ≤ tall_in b c
 unfolding extent
-tall_enough m ts cs t b able heights-are i c e w h =
+tall_enough m ts cs t b able heights_are i c e w h =
     let want : Cell → Want = row_want m (height_in ts) b in
     let xs : List Cell = cells_of Rows t b cs in
     let fits : AllByRecursion (law.Fits 63 (row_count b)) (map want xs) =
     All-map (law.Fits 63 (row_count b)) want xs (all_cells _ Rows t b cs (λ k d p l. (l.some, l.few, l.ends))) in
     let all = all_mapped _ want xs (rows_have_room b.spacing (row_count b) (map want xs) fits) in
-    omega (arith, cell_in _ Rows t b cs all able i c e w h, ap (stretch c.row c.down) heights-are)
+    omega (arith, cell_in _ Rows t b cs all able i c e w h, ap (stretch c.row c.down) heights_are)

@@ -12,7 +12,7 @@ use Rattle.plan.specs.declared.record.Axis.TheVariants.{Columns, Rows}
 use Rattle.plan.specs.declared.record.Cell.{Cell}
 use Rattle.plan.specs.declared.record.Column.{Column}
 use Rattle.plan.specs.declared.record.Table.{Table}
-use Rattle.plan.specs.Steps.{columns_of as column-count}
+use Rattle.plan.specs.Steps.{columns_of as column_count}
 use Rattle.columns.specs.Columns.{widths_of, least_width, greatest_width}
 use Rattle.columns.specs.Tables.{own_columns, widths, heights, track_count, lies_in}
 use Rattle.columns.specs.Tracks.{extent, whole}
@@ -75,8 +75,8 @@ spacing_is b d s = ap (λ (z : Table). z.spacing) s
 -- their own columns are sized alike
 pub clears_are : (b d : Table) → clear_table b ≡ clear_table d → map clear_column (own_columns b) ≡ map clear_column (own_columns d)
 clears_are b d s =
-    let e : take (column-count b) (map clear_column b.columns) ≡ take (column-count d) (map clear_column d.columns) = λ i. take (column-count (s i)) (s i).columns in
-    sym (take-map clear_column (column-count b) b.columns) ∙ (e ∙ take-map clear_column (column-count d) d.columns)
+    let e : take (column_count b) (map clear_column b.columns) ≡ take (column_count d) (map clear_column d.columns) = λ i. take (column_count (s i)) (s i).columns in
+    sym (take-map clear_column (column_count b) b.columns) ∙ (e ∙ take-map clear_column (column_count d) d.columns)
 
 pub wide_by : (b d : Table) → clear_table b ≡ clear_table d → widths b ≡ widths d → (c : Cell) → wide_in b c ≡ wide_in d c
 wide_by b d s w c = ap₂ (λ x y. extent x y c.column c.across) (spacing_is b d s) w

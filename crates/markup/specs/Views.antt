@@ -3,8 +3,8 @@ use Rattle.std.specs.Prelude.{ℕ, ◌<◌, ◌≤◌, Bool, cond, List, take, S
 use Rattle.classes.specs.Classes.{white}
 use Rattle.markup.specs.declared.spans.Span.{Span}
 use Rattle.markup.specs.declared.spans.Span.TheVariants.{White, Letters, Digits}
-use Rattle.markup.specs.declared.values.Given as code-given
-use Rattle.markup.specs.declared.values.Piece as code-piece
+use Rattle.markup.specs.declared.values.Given as code_given
+use Rattle.markup.specs.declared.values.Piece as code_piece
 use Rattle.markup.specs.declared.values.Piece.TheVariants as code
 use Rattle.markup.specs.Attributes.{Given, Piece, Bad, Last, One}
 use Rattle.markup.specs.Spans.{letter, digit}
@@ -16,16 +16,16 @@ in_span White = white
 in_span Letters = letter
 in_span Digits = digit
 
-abbrev pub as_given : code-given.Given → Given
+abbrev pub as_given : code_given.Given → Given
 as_given g = record { name = g.name; value = g.value; size = g.size }
 
-abbrev pub as_piece : code-piece.Piece → Piece
+abbrev pub as_piece : code_piece.Piece → Piece
 as_piece code.Bad = Bad
 as_piece code.Last = Last
 as_piece (code.One g n) = One (as_given g) n
 
 -- an attribute takes a byte and more, and no more than there are
-abbrev pub Inside : ℕ → code-piece.Piece → Type 0
+abbrev pub Inside : ℕ → code_piece.Piece → Type 0
 Inside n code.Bad = Unit {0}
 Inside n code.Last = Unit {0}
 Inside n (code.One g m) = (0 < m) × (m ≤ n)

@@ -66,11 +66,11 @@ nested_content m cs c x e s =
 -- a cell more that holds a new table
 pub nested_inner : (m : ℕ) (cs : List Cell) (c : Cell) → c.holds ≡ Inner m → c.table < m → ((k : ℕ) (a : Cell) → slice_get cs k ≡ Some a → a.table < m) → Nested m cs → Nested (m + 1) (cs ++ c ∷ [])
 nested_inner m cs c e low known s =
-    let is-new : (n : ℕ) (a : Cell) → c ≡ a → a.holds ≡ Inner n → m ≡ n = λ n a q h. inner_same m n (sym e ∙ ap (λ (y : Cell). y.holds) q ∙ h) in
+    let is_new : (n : ℕ) (a : Cell) → c ≡ a → a.holds ≡ Inner n → m ≡ n = λ n a q h. inner_same m n (sym e ∙ ap (λ (y : Cell). y.holds) q ∙ h) in
     record {
       holds = λ k n a p h. elim (nth_push cs c k a p) [
         | inl q ↦ let old = s.holds k n a q h in (old.0, omega (arith, old.1))
-        | inr q ↦ let new = is-new n a q.1 h in (subst (λ (y : Cell). y.table < n) q.1 (omega arith), omega arith)
+        | inr q ↦ let new = is_new n a q.1 h in (subst (λ (y : Cell). y.table < n) q.1 (omega arith), omega arith)
       ];
       held = λ n p q. elim (cases_lt n m) [
         | inl h ↦ holder_old cs c n (s.held n p h)
@@ -79,18 +79,18 @@ nested_inner m cs c e low known s =
       once = λ i k n a b p q h g. elim (nth_push cs c i a p) [
         | inl u ↦ elim (nth_push cs c k b q) [
           | inl v ↦ s.once i k n a b u v h g
-          | inr v ↦ absurd (omega (arith, (s.holds i n a u h).1, is-new n b v.1 g))
+          | inr v ↦ absurd (omega (arith, (s.holds i n a u h).1, is_new n b v.1 g))
         ]
         | inr u ↦ elim (nth_push cs c k b q) [
-          | inl v ↦ absurd (omega (arith, (s.holds k n b v g).1, is-new n a u.1 h))
+          | inl v ↦ absurd (omega (arith, (s.holds k n b v g).1, is_new n a u.1 h))
           | inr v ↦ u.0 ∙ sym v.0
         ]
       ];
       later = λ i k n a b p q h g. elim (nth_push cs c i a p) [
         | inl u ↦ elim (nth_push cs c k b q) [ inl v ↦ s.later i k n a b u v h g | inr v ↦ omega (arith, nth_below cs i a u, v.0) ]
         | inr u ↦ elim (nth_push cs c k b q) [
-          | inl v ↦ absurd (omega (arith, known k b v, is-new n a u.1 h))
-          | inr v ↦ absurd (omega (arith, is-new n a u.1 h, ap (λ (y : Cell). y.table) v.1))
+          | inl v ↦ absurd (omega (arith, known k b v, is_new n a u.1 h))
+          | inr v ↦ absurd (omega (arith, is_new n a u.1 h, ap (λ (y : Cell). y.table) v.1))
         ]
       ];
     }

@@ -1,5 +1,5 @@
 -- What a shelf of contents that stand in bytes means, and what it is to show them faithfully.
-use Rattle.std.specs.Prelude.{◌≡◌, ℕ, ◌<◌, ◌≤◌, min, max, Bool, true, ◌&&◌, List, [], map, length, get_or, drop, nat_le, slice_index_or}
+use Rattle.std.specs.Prelude.{◌≡◌, ℕ, ◌<◌, ◌≤◌, min, max, Bool, true, ◌&&◌, List, [], map, length, drop, nat_le, slice_index_or}
 use Rattle.std.specs.List.{range_with_len}
 use Rattle.letters.specs.Letters.{letters, sound}
 use Rattle.letters.specs.Spelling.{Spells}
@@ -93,7 +93,7 @@ pub record ShowsBlock (m : Meaning) (k : ℕ) (bytes : List ℕ) : Type 0 where
 pub record Starts (kind : Kind) (s : List ℕ) (w r start : ℕ) : Type 0 where
   pub inside : start ≤ length s
   pub small : (content kind (drop start s)).least ≤ w
-  pub same : get_or ((content kind (drop start s)).lines_at w) 0 [] ≡ slice_index_or ((content kind s).lines_at w) r []
+  pub same : slice_index_or ((content kind (drop start s)).lines_at w) 0 [] ≡ slice_index_or ((content kind s).lines_at w) r []
 
 -- what one reading of the bytes tells: whether all are characters, the widths, the height at w, and where line r begins
 pub record Surveyed (kind : Kind) (s : List ℕ) (w r : ℕ) (good : Bool) (least most high start : ℕ) : Type 0 where
