@@ -1,5 +1,5 @@
 -- When a lent list is full.
-use Rattle.std.proofs.Common.{◌≡◌, ℕ, ◌-◌, ◌<◌, ◌≤◌, Bool, true, false, ◌||◌, eqb, leb, List, length, take, drop, refl, ap, ◌∙◌, arith, length-drop, length-set, length-take}
+use Rattle.std.proofs.Common.{◌≡◌, ℕ, ◌-◌, ◌<◌, ◌≤◌, Bool, true, false, ◌||◌, eqb, leb, length, refl, ap, ◌∙◌, arith, length-drop, length-set, length-take}
 use Rattle.std.proofs.lemmas.Bool.{both_ways, or_left, eq-eqb, ne_eqb}
 use Rattle.fault.specs.declared.Fault.{Fault}
 use Rattle.list.specs.Held.{items, spare, room, Declined, Put}

@@ -1,13 +1,12 @@
 -- The laws of the share rule.
-use mathlib.Core.Path.{◌≡◌, refl, sym, ◌∙◌, ap, ap₂, subst}
+use mathlib.Core.Path.{◌≡◌, refl, ◌∙◌, ap}
 use mathlib.Core.List.{List, [], ◌∷◌}
-use Prim.Native.Nat.{ℕ, zero, suc, ◌+◌, ◌-◌, ◌*◌, ◌/◌, ◌%◌, ◌<◌, ◌≤◌}
+use Prim.Native.Nat.{ℕ, zero, suc, ◌+◌, ◌-◌, ◌*◌, ◌/◌, ◌<◌, ◌≤◌}
 use native.Mathlib.Nat.{add-zero, zero-add, add_assoc, mul-add, add-mul, le_refl, le_trans, zero-lt-suc, mul-le-mul_left, mul-le-mul_right, div-mul-le_self, lt-div-mul-add, lt_of_mul-lt-mul_right, le-div_iff_mul-le, zero-div, div-zero, mul-zero, mul-div_cancel}
-use native.Mathlib.Numerals.{add-one}
 use native.Mathlib.Omega.{arith}
 use lib.ListN.{length, get_or, take, drop}
 use Rattle.share.specs.Share.{total, upto, part, parts_from, parts, stretch}
-use Rattle.share.specs.Laws.{Fair, SharesAreFair}
+use Rattle.share.specs.Laws.{SharesAreFair}
 
 -- a quotient does not fall where the numerator rises
 pub div_mono : (D : ℕ) {a b : ℕ} → a ≤ b → a / D ≤ b / D

@@ -1,4 +1,4 @@
-use Rattle.std.proofs.Common.{sym, ◌∙◌}
+use Rattle.std.proofs.Common.{sym}
 use Rattle.plan.proofs.Stocks.{not_declined}
 use Rattle.plan.proofs.calls.start_table.Goals as goal
 

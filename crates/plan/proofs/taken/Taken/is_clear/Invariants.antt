@@ -1,4 +1,4 @@
-use Rattle.std.proofs.Common.{◌≡◌, ◌+◌, ◌-◌, ◌≤◌}
+use Rattle.std.proofs.Common.{◌≡◌, ◌+◌, ◌-◌}
 use Rattle.plan.specs.Taken.{clear, open_at}
 use Rattle.plan.proofs.taken.Taken.is_clear.Given as goal
 

@@ -1,4 +1,4 @@
-use Rattle.std.proofs.Common.{◌≡◌, set, ap, ◌∙◌, arith}
+use Rattle.std.proofs.Common.{set, ap, ◌∙◌}
 use Rattle.plan.proofs.Spots.{raised_more}
 use Rattle.plan.proofs.taken.Taken.take.Goals as goal
 

@@ -1,4 +1,4 @@
-use Rattle.std.proofs.Common.{◌≡◌, ◌+◌, ◌-◌, ◌≤◌}
+use Rattle.std.proofs.Common.{◌≡◌, ◌-◌}
 use Rattle.plan.specs.Taken.{raised}
 use Rattle.plan.proofs.taken.Taken.take.Given as goal
 
