@@ -5,30 +5,30 @@ ghost use Rattle.std.specs.Prelude.{◌≡◌};
 ghost use Rattle.fault.specs.Numbers.{number_of, fault};
 
 /// Every reason for which a call declines. docs/REFUSALS.md has the condition of each.
-#[derive(Clone, Copy, Debug)]
+#[derive(Clone, Copy, PartialEq, Eq, Debug)]
 pub enum Reason {
-    OutOfRange,
-    NotFound,
-    AlreadyStarted,
-    NoRow,
-    NoFreeColumns,
-    PastLastRow,
-    Full,
-    NotLaid,
-    NotOnShelf,
-    TooWide,
-    TooTall,
-    PastPageEnd,
-    WrongPageLength,
-    UnfitWidth,
-    PastLastLine,
-    WrongLineLength,
-    FileTooLong,
-    ByteNotAllowed,
-    Malformed,
-    Misplaced,
-    MixedContent,
-    Unfinished,
+    OutOfRange = 1,
+    NotFound = 2,
+    AlreadyStarted = 3,
+    NoRow = 4,
+    NoFreeColumns = 5,
+    PastLastRow = 6,
+    Full = 7,
+    NotLaid = 8,
+    NotOnShelf = 9,
+    TooWide = 10,
+    TooTall = 11,
+    PastPageEnd = 12,
+    WrongPageLength = 13,
+    UnfitWidth = 14,
+    PastLastLine = 15,
+    WrongLineLength = 16,
+    FileTooLong = 17,
+    ByteNotAllowed = 18,
+    Malformed = 19,
+    Misplaced = 20,
+    MixedContent = 21,
+    Unfinished = 22,
 }
 
 impl Reason {
@@ -36,35 +36,13 @@ impl Reason {
     pub fn number(self) -> u8
         ensures { result ≡ number_of self }
     {
-        match self {
-            Reason::OutOfRange => 1,
-            Reason::NotFound => 2,
-            Reason::AlreadyStarted => 3,
-            Reason::NoRow => 4,
-            Reason::NoFreeColumns => 5,
-            Reason::PastLastRow => 6,
-            Reason::Full => 7,
-            Reason::NotLaid => 8,
-            Reason::NotOnShelf => 9,
-            Reason::TooWide => 10,
-            Reason::TooTall => 11,
-            Reason::PastPageEnd => 12,
-            Reason::WrongPageLength => 13,
-            Reason::UnfitWidth => 14,
-            Reason::PastLastLine => 15,
-            Reason::WrongLineLength => 16,
-            Reason::FileTooLong => 17,
-            Reason::ByteNotAllowed => 18,
-            Reason::Malformed => 19,
-            Reason::Misplaced => 20,
-            Reason::MixedContent => 21,
-            Reason::Unfinished => 22,
-        }
+        self as u8
     }
 }
 
-/// A refusal: the reason, and the cell, table or byte that it names, 0 where it names none.
-#[derive(Clone, Copy, Debug)]
+/// A refusal: the reason, and the cell, table or byte that it names, 0 where it names none. The place is no Option: it is printed, and kept
+/// by callers, as a number.
+#[derive(Clone, Copy, PartialEq, Eq, Debug)]
 pub struct Fault {
     pub reason: Reason,
     pub place: usize,

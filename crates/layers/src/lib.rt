@@ -3,5 +3,5 @@
 
 pub mod frame;
 pub mod joined;
-mod margin;
+pub mod margin;
 pub mod padding;
