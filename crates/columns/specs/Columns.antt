@@ -1,5 +1,5 @@
 -- The columns of a table: what its cells ask of them, and what an offer gives them.
-use Rattle.std.specs.Prelude.{ℕ, zero, suc, ◌+◌, ◌-◌, ◌*◌, max, Bool, true, false, cond, List, [], ◌∷◌, ◌++◌, map, length, take, drop, replicate, ◌==◌, nat_le}
+use Rattle.std.specs.Prelude.{ℕ, zero, suc, ◌+◌, ◌-◌, ◌*◌, max, Bool, true, false, if◌then◌else◌, List, [], ◌∷◌, ◌++◌, map, length, take, drop, replicate, ◌==◌, nat_le}
 use Rattle.share.specs.Share.{total, parts, ones}
 use Rattle.plan.specs.declared.record.Column.{Column}
 use Rattle.plan.specs.declared.record.Sizing.{Sizing}
@@ -50,7 +50,7 @@ raise_one x cs = over (map (raised_to x)) x.first 1 cs
 
 -- Step 2: a fixed column gets the larger of its width and its least.
 abbrev pub held : Column → Column
-held c = cond (free c) c (record { sizing = c.sizing; least = max (fixed_of c) c.least; greatest = max (fixed_of c) c.least; width = c.width })
+held c = if free c then c else record { sizing = c.sizing; least = max (fixed_of c) c.least; greatest = max (fixed_of c) c.least; width = c.width }
 
 -- Step 3: a span's need is shared evenly.
 -- what m asks above the spacings and what the columns have
@@ -58,14 +58,14 @@ abbrev pub need : ℕ → ℕ → ℕ → List ℕ → ℕ
 need q span m has = m - (span - 1) * q - total has
 
 abbrev pub free_weights : List Column → List ℕ
-free_weights cs = map (λ c. cond (free c) 1 0) cs
+free_weights cs = map (λ c. if free c then 1 else 0) cs
 
 -- 1 for each free column, or for each where none is free
 abbrev pub none_free : List Column → Bool
 none_free cs = total (free_weights cs) == 0
 
 abbrev pub weight : Bool → Column → ℕ
-weight all c = cond all 1 (cond (free c) 1 0)
+weight all c = if all then 1 else if free c then 1 else 0
 
 abbrev pub even_weights : List Column → List ℕ
 even_weights cs = map (weight (none_free cs)) cs
@@ -82,7 +82,7 @@ more_least p c =
     record {
       sizing = c.sizing;
       least = c.least + p;
-      greatest = cond (free c) (max c.greatest (c.least + p)) (c.least + p);
+      greatest = if free c then max c.greatest (c.least + p) else c.least + p;
       width = c.width;
     }
 
@@ -102,7 +102,7 @@ raise_span q x cs = over (λ ys. meet_maximum q x (meet_minimum q x ys)) x.first
 -- f done for each cell of span s, in the order of their numbers
 unfoldable pub each_of : {S : Type 0} → ℕ → (Want → S → S) → List Want → S → S
 each_of s f [] cs = cs
-each_of s f (x ∷ xs) cs = each_of s f xs (cond (x.span == s) (f x cs) cs)
+each_of s f (x ∷ xs) cs = each_of s f xs (if x.span == s then f x cs else cs)
 
 -- the cells of span s, then s + 1, and so on, n spans
 unfoldable pub spans : {S : Type 0} → (Want → S → S) → ℕ → ℕ → List Want → S → S
@@ -137,9 +137,9 @@ sums (x ∷ xs) (y ∷ ys) = (x + y) ∷ sums xs ys
 
 unfoldable pub widths_of : ℕ → List Column → ℕ → List ℕ
 widths_of q cs A =
-    cond (nat_le A (least_width q cs)) (leasts cs)
-    (cond (nat_le (greatest_width q cs) A) (greatests cs)
-    (sums (leasts cs) (parts (A - least_width q cs) (spreads cs))))
+    if nat_le A (least_width q cs) then leasts cs
+    else if nat_le (greatest_width q cs) A then greatests cs
+    else sums (leasts cs) (parts (A - least_width q cs) (spreads cs))
 
 abbrev pub overflow_of : ℕ → List Column → ℕ → ℕ
 overflow_of q cs A = least_width q cs - A

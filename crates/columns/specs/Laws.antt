@@ -1,5 +1,5 @@
 -- The laws of the columns, of the offer and of the rows.
-use Rattle.std.specs.Prelude.{◌≡◌, ℕ, suc, ◌+◌, ◌-◌, ◌*◌, ◌<◌, ◌≤◌, max, true, false, cond, ◌&&◌, List, [], ◌∷◌, map, length, ◌==◌, slice_index, slice_index_or}
+use Rattle.std.specs.Prelude.{◌≡◌, ℕ, suc, ◌+◌, ◌-◌, ◌*◌, ◌<◌, ◌≤◌, max, true, false, if◌then◌else◌, ◌&&◌, List, [], ◌∷◌, map, length, ◌==◌, slice_index, slice_index_or}
 use Rattle.std.specs.List.{AllByRecursion}
 use Rattle.share.specs.Share.{total, stretch}
 use Rattle.plan.specs.declared.record.Column.{Column}
@@ -38,7 +38,7 @@ Wide q cs x = x.maximum ≤ total (greatests (spanned x cs)) + (x.span - 1) * q
 -- the largest minimum among the cells of span 1 in column j, and at least 1
 abbrev pub own_minimum : ℕ → List Want → ℕ
 own_minimum j [] = 1
-own_minimum j (x ∷ xs) = cond (x.span == 1 && x.first == j) (max x.minimum (own_minimum j xs)) (own_minimum j xs)
+own_minimum j (x ∷ xs) = if x.span == 1 && x.first == j then max x.minimum (own_minimum j xs) else own_minimum j xs
 
 -- a longer span does not raise column j: it does not cover it, or the column is fixed and another one that it covers is free
 abbrev pub Spares : List Column → ℕ → Want → Type 0

@@ -1,5 +1,5 @@
 -- The layout call: what it answers, and what it leaves of the sheet's lists.
-use Rattle.std.specs.Prelude.{ℕ, Bool, cond, map, length, Ok, Err, Result, ◌==◌, nat_le}
+use Rattle.std.specs.Prelude.{ℕ, Bool, if◌then◌else◌, map, length, Ok, Err, Result, ◌==◌, nat_le}
 use Rattle.std.specs.List.{slice_get}
 use Rattle.fault.specs.Numbers.{fault, number_of}
 use Rattle.fault.specs.declared.Fault.{Fault}
@@ -50,9 +50,9 @@ lay_in A ts cs (Ok l) =
 -- an offer from 1 to 2,000, and a sheet that is started
 abbrev pub lay : Meaning → ℕ → Stock Table → Stock Cell → Result Laying Fault
 lay m A ts cs =
-    cond (from_to 1 widest A)
-    (cond (length ts.items == 0) (Err (fault NotFound 0)) (lay_in A ts cs (layout m A ts.items cs.items)))
-    (Err (fault OutOfRange 0))
+    if from_to 1 widest A
+    then (if length ts.items == 0 then Err (fault NotFound 0) else lay_in A ts cs (layout m A ts.items cs.items))
+    else Err (fault OutOfRange 0)
 
 -- a layout that is declined by its arguments, with 1 or 2, measures nothing
 abbrev pub by_arguments : Fault → Bool
@@ -67,7 +67,7 @@ clear_cells cs = record { items = map clear_cell cs.items; spare = cs.spare }
 
 -- a declined layout leaves all as it was, or else every measure 0
 abbrev pub tables_left : Fault → Stock Table → Stock Table
-tables_left f ts = cond (by_arguments f) ts (clear_tables ts)
+tables_left f ts = if by_arguments f then ts else clear_tables ts
 
 abbrev pub cells_left : Fault → Stock Cell → Stock Cell
-cells_left f cs = cond (by_arguments f) cs (clear_cells cs)
+cells_left f cs = if by_arguments f then cs else clear_cells cs

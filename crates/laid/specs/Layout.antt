@@ -1,5 +1,5 @@
 -- The layout of a sheet: columns from the highest table down, offers going up, rows from the highest table down, boxes going up.
-use Rattle.std.specs.Prelude.{ℕ, zero, suc, ◌+◌, min, max, Bool, cond, List, [], ◌∷◌, map, length, Some, None, Ok, Err, Option, Result, nat_lt}
+use Rattle.std.specs.Prelude.{ℕ, zero, suc, ◌+◌, min, max, Bool, if◌then◌else◌, List, [], ◌∷◌, map, length, Some, None, Ok, Err, Option, Result, nat_lt}
 use Rattle.std.specs.List.{slice_get}
 use Rattle.fault.specs.Numbers.{fault}
 use Rattle.fault.specs.declared.Fault.{Fault}
@@ -145,12 +145,12 @@ first_fault f i (c ∷ cs) = seen Some (first_fault f (suc i) cs) (f i c)
 
 -- cell i holds a content that is not on the shelf
 abbrev pub off_shelf : Meaning → ℕ → Holds → Option Fault
-off_shelf m i (Content k) = cond (m.has k) None (Some (fault NotOnShelf i))
+off_shelf m i (Content k) = if m.has k then None else Some (fault NotOnShelf i)
 off_shelf m i (Inner u) = None
 
 -- cell i holds a content that cannot be set at width w
 abbrev pub unfit : Meaning → ℕ → ℕ → Holds → Option Fault
-unfit m w i (Content k) = cond (m.has k) (cond (misfits m k w) (Some (fault UnfitWidth i)) None) (Some (fault NotOnShelf i))
+unfit m w i (Content k) = if m.has k then (if misfits m k w then Some (fault UnfitWidth i) else None) else Some (fault NotOnShelf i)
 unfit m w i (Inner u) = None
 
 -- the lowest cell whose content is not on the shelf
@@ -172,7 +172,7 @@ or_else (Some i) o = Some i
 -- the highest table, from number i on, that p is true of
 unfoldable pub highest : (Table → Bool) → ℕ → List Table → Option ℕ
 highest p i [] = None
-highest p i (b ∷ bs) = or_else (highest p (suc i) bs) (cond (p b) (Some i) None)
+highest p i (b ∷ bs) = or_else (highest p (suc i) bs) (if p b then Some i else None)
 
 -- a least width above 2,000
 abbrev pub too_wide : Table → Bool

@@ -1,5 +1,5 @@
 -- The page: each content in its box, all else blank.
-use Rattle.std.specs.Prelude.{ℕ, ◌+◌, ◌-◌, Bool, cond, ◌&&◌, List, [], ◌∷◌, Some, None, Option, nat_le, nat_lt}
+use Rattle.std.specs.Prelude.{ℕ, ◌+◌, ◌-◌, Bool, if◌then◌else◌, ◌&&◌, List, [], ◌∷◌, Some, None, Option, nat_le, nat_lt}
 use Rattle.shelf.specs.Shelves.{Meaning}
 use Rattle.plan.specs.declared.record.Cell.{Cell}
 use Rattle.plan.specs.declared.record.Holds.{Holds}
@@ -14,7 +14,7 @@ shows m b k x y =
 
 -- the character that a cell shows in column x and line y of the page, if any
 abbrev pub shown : Meaning → Rect → ℕ → ℕ → Holds → Option ℕ
-shown m b x y (Content k) = cond (shows m b k x y) (Some (m.glyph k b.width (y - b.top) (x - b.left))) None
+shown m b x y (Content k) = if shows m b k x y then Some (m.glyph k b.width (y - b.top) (x - b.left)) else None
 shown m b x y (Inner u) = None
 
 -- the character in column x and line y of the page: that of the cell that shows one, else a blank

@@ -1,5 +1,5 @@
 -- What is seen of tables and cells by their numbers.
-use Rattle.std.specs.Prelude.{ℕ, suc, Bool, false, cond, List, [], ◌∷◌, Some, None, filter, Option, ◌==◌}
+use Rattle.std.specs.Prelude.{ℕ, suc, Bool, false, if◌then◌else◌, List, [], ◌∷◌, Some, None, filter, Option, ◌==◌}
 use Rattle.std.specs.List.{slice_get}
 use Rattle.plan.specs.declared.record.Axis.{Axis}
 use Rattle.plan.specs.declared.record.Cell.{Cell}
@@ -47,11 +47,11 @@ holds_table t (Inner u) = u == t
 
 unfoldable pub holder_from : ℕ → ℕ → List Cell → Option ℕ
 holder_from t i [] = None
-holder_from t i (c ∷ cs) = cond (holds_table t c.holds) (Some i) (holder_from t (suc i) cs)
+holder_from t i (c ∷ cs) = if holds_table t c.holds then Some i else holder_from t (suc i) cs
 
 -- the number of the cell that holds table t; the outermost table is held by none
 abbrev pub holder : ℕ → List Cell → Option ℕ
-holder t cs = cond (t == 0) None (holder_from t 0 cs)
+holder t cs = if t == 0 then None else holder_from t 0 cs
 
 -- the cell of that number
 abbrev pub cell_at : List Cell → Option ℕ → Option Cell

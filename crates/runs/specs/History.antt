@@ -1,5 +1,5 @@
 -- What a run did, told by its calls: what was made keeps its number, and columns are as last set.
-use Rattle.std.specs.Prelude.{◌≡◌, ℕ, cond, ◌&&◌, List, [], ◌∷◌, ◌++◌, is_ok, Some, None, Ok, Option, ◌==◌, slice_index_or}
+use Rattle.std.specs.Prelude.{◌≡◌, ℕ, if◌then◌else◌, ◌&&◌, List, [], ◌∷◌, ◌++◌, is_ok, Some, None, Ok, Option, ◌==◌, slice_index_or}
 use Rattle.std.specs.List.{slice_get}
 use Rattle.plan.specs.declared.record.Cell.{Cell}
 use Rattle.plan.specs.declared.record.Holds.{Holds}
@@ -41,7 +41,7 @@ set_by s (Start n q) t j z = z
 set_by s (Row u) t j z = z
 set_by s (Place u content across down) t j z = z
 set_by s (Nest u across down n q) t j z = z
-set_by s (Width u i f) t j z = cond (is_ok (wanted s (Width u i f)) && (u == t && i == j)) (sizing_of f) z
+set_by s (Width u i f) t j z = if is_ok (wanted s (Width u i f)) && (u == t && i == j) then sizing_of f else z
 
 -- how a column is sized after calls: as last set
 abbrev pub last_set : State → List Call → ℕ → ℕ → Sizing → Sizing

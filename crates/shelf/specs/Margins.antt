@@ -1,5 +1,5 @@
 -- A shelf with a margin around each content: blanks for padding, lines for a frame.
-use Rattle.std.specs.Prelude.{ℕ, ◌+◌, ◌-◌, ◌*◌, min, Bool, cond, ◌&&◌, nat_le, nat_lt}
+use Rattle.std.specs.Prelude.{ℕ, ◌+◌, ◌-◌, ◌*◌, min, Bool, if◌then◌else◌, ◌&&◌, nat_le, nat_lt}
 use Rattle.shelf.specs.Shelves.{Meaning, largest}
 
 -- n more on both sides, and never past the largest number
@@ -19,9 +19,9 @@ margined corner flat side n m = record {
   maximum = λ k. grown n (m.maximum k);
   height = λ k w. grown n (m.height k (w - 2 * n));
   glyph = λ k w r c.
-      cond (within n (m.height k (w - 2 * n)) r)
-      (cond (within n (w - 2 * n) c) (m.glyph k (w - 2 * n) (r - n) (c - n)) side)
-      (cond (within n (w - 2 * n) c) flat corner);
+      if within n (m.height k (w - 2 * n)) r
+      then (if within n (w - 2 * n) c then m.glyph k (w - 2 * n) (r - n) (c - n) else side)
+      else if within n (w - 2 * n) c then flat else corner;
 }
 
 -- padding p: p blanks on all four sides

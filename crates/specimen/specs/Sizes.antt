@@ -1,5 +1,5 @@
 -- Which files are set, and how wide and tall.
-use Rattle.std.specs.Prelude.{ℕ, max, cond, List, length, Ok, Err, Result, nat_lt}
+use Rattle.std.specs.Prelude.{ℕ, max, if◌then◌else◌, List, length, Ok, Err, Result, nat_lt}
 use Rattle.fault.specs.Numbers.{fault}
 use Rattle.fault.specs.declared.Fault.{Fault}
 use Rattle.fault.specs.declared.Reason.TheVariants.{NotOnShelf, UnfitWidth, FileTooLong}
@@ -11,7 +11,7 @@ use Rattle.specimen.specs.declared.size.Size.{Size}
 
 -- at most 32,768 bytes, and each of them one of a text
 abbrev pub judgement : List ℕ → Result Unit Fault
-judgement file = cond (nat_lt 32768 (length file)) (Err (fault FileTooLong 0)) (verdict Text file)
+judgement file = if nat_lt 32768 (length file) then Err (fault FileTooLong 0) else verdict Text file
 
 -- 60 columns, or the minimum if that is larger
 abbrev pub set_width : Meaning → ℕ
@@ -20,7 +20,7 @@ set_width m = max (m.minimum 0) 60
 -- content 0 at that width
 abbrev pub size_answer : Meaning → Result Size Fault
 size_answer m =
-    cond (m.has 0)
-    (cond (misfits m 0 (set_width m)) (Err (fault UnfitWidth 0))
-    (Ok (record { least = m.minimum 0; most = m.maximum 0; width = set_width m; height = m.height 0 (set_width m) })))
-    (Err (fault NotOnShelf 0))
+    if m.has 0
+    then (if misfits m 0 (set_width m) then Err (fault UnfitWidth 0)
+    else Ok (record { least = m.minimum 0; most = m.maximum 0; width = set_width m; height = m.height 0 (set_width m) }))
+    else Err (fault NotOnShelf 0)

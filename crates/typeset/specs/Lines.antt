@@ -1,5 +1,5 @@
 -- How the lines of a text are filled with words.
-use Rattle.std.specs.Prelude.{ℕ, ◌+◌, ◌-◌, cond, List, [], ◌∷◌, ◌++◌, length, replicate, nat_le, slice_index_or}
+use Rattle.std.specs.Prelude.{ℕ, ◌+◌, ◌-◌, if◌then◌else◌, List, [], ◌∷◌, ◌++◌, length, replicate, nat_le, slice_index_or}
 
 -- words with single blanks between
 abbrev pub spaced : List (List ℕ) → List ℕ
@@ -21,7 +21,7 @@ onto v (l ∷ ls) = (v ∷ l) ∷ ls
 -- a word goes onto the line if it fits, and else begins the next line
 abbrev pub filled : ℕ → ℕ → List (List ℕ) → List (List (List ℕ))
 filled w t [] = [] ∷ []
-filled w t (v ∷ vs) = cond (nat_le (t + length v) w) (onto v (filled w (t + (length v + 1)) vs)) ([] ∷ onto v (filled w (length v + 1) vs))
+filled w t (v ∷ vs) = if nat_le (t + length v) w then onto v (filled w (t + (length v + 1)) vs) else ([] ∷ onto v (filled w (length v + 1) vs))
 
 abbrev pub lines : ℕ → List (List ℕ) → List (List (List ℕ))
 lines w ws = filled w 0 ws

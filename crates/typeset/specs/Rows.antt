@@ -1,5 +1,5 @@
 -- The lines of a block, which newlines part.
-use Rattle.std.specs.Prelude.{◌≡◌, ℕ, ◌<◌, false, cond, List, [], ◌∷◌, ◌++◌, length, ◌==◌}
+use Rattle.std.specs.Prelude.{◌≡◌, ℕ, ◌<◌, false, if◌then◌else◌, List, [], ◌∷◌, ◌++◌, length, ◌==◌}
 use Rattle.std.specs.List.{AllByRecursion}
 use Rattle.letters.specs.Letters.{letters_from}
 use Rattle.letters.specs.declared.Kind.TheVariants.{Block}
@@ -8,7 +8,7 @@ use Rattle.typeset.specs.Lines.{onto}
 -- the lines of bytes or characters: n newlines make n + 1 lines
 abbrev pub rows : List ℕ → List (List ℕ)
 rows [] = [] ∷ []
-rows (c ∷ cs) = cond (c == 10) ([] ∷ rows cs) (onto c (rows cs))
+rows (c ∷ cs) = if c == 10 then ([] ∷ rows cs) else onto c (rows cs)
 
 -- the lines of the bytes from at on
 abbrev pub rows_from : List ℕ → ℕ → List (List ℕ)

@@ -1,5 +1,5 @@
 -- The words of a text.
-use Rattle.std.specs.Prelude.{◌≡◌, ℕ, ◌+◌, ◌<◌, ◌≤◌, max, Bool, false, cond, not, List, [], ◌∷◌, ◌++◌, length, take}
+use Rattle.std.specs.Prelude.{◌≡◌, ℕ, ◌+◌, ◌<◌, ◌≤◌, max, Bool, false, if◌then◌else◌, not, List, [], ◌∷◌, ◌++◌, length, take}
 use Rattle.classes.specs.Classes.{white}
 use Rattle.letters.specs.Letters.{letters_from}
 use Rattle.letters.specs.declared.Kind.TheVariants.{Text}
@@ -12,7 +12,7 @@ closed (c ∷ v) ws = (c ∷ v) ∷ ws
 -- the words of characters that follow on v, the part of a word
 abbrev pub parted : List ℕ → List ℕ → List (List ℕ)
 parted v [] = closed v []
-parted v (c ∷ cs) = cond (white c) (closed v (parted [] cs)) (parted (v ++ c ∷ []) cs)
+parted v (c ∷ cs) = if white c then closed v (parted [] cs) else parted (v ++ c ∷ []) cs
 
 -- the runs of characters that are not white
 abbrev pub words : List ℕ → List (List ℕ)
