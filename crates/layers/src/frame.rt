@@ -1,4 +1,6 @@
 // Lines around every content of a shelf.
+ghost use Rattle.std.specs.Prelude.{refl};
+ghost use Rattle.shelf.specs.Margins.{framed};
 ghost use Rattle.shelf.proofs.Margins.{framed_lawful};
 
 use crate::margin::{Margined, Style};
@@ -8,6 +10,8 @@ use crate::margin::{Margined, Style};
 pub struct Lines;
 
 impl Style for Lines {
+    ghost around = { framed };
+
     ghost MOST = { 1 };
     ghost CORNER = { 43 };
     ghost FLAT = { 45 };
@@ -17,6 +21,8 @@ impl Style for Lines {
     const CORNER: u8 = b'+';
     const FLAT: u8 = b'-';
     const SIDE: u8 = b'|';
+
+    ghost shows = { λ n m. refl };
 
     ghost keeps_lawful = { framed_lawful };
 }

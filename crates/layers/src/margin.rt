@@ -12,6 +12,9 @@ use std::marker::PhantomData;
 
 /// How many places a margin has at most on a side, and what it shows in its corners, above and under the content, and beside it.
 pub trait Style {
+    // what a shelf means with so many places of the margin around its contents
+    ghost around: { ℕ → Meaning → Meaning };
+
     ghost MOST: { ℕ };
     ghost CORNER: { ℕ };
     ghost FLAT: { ℕ };
@@ -22,8 +25,10 @@ pub trait Style {
     const FLAT: u8;
     const SIDE: u8;
 
-    // a margin of the style leaves a shelf as lawful as it was
-    ghost keeps_lawful: { (n : ℕ) (m : Meaning) → Lawful m → Lawful (margined CORNER FLAT SIDE n m) };
+    ghost shows: { (n : ℕ) (m : Meaning) → around n m ≡ margined CORNER FLAT SIDE n m };
+
+    // the margin leaves a shelf as lawful as it was
+    ghost keeps_lawful: { (n : ℕ) (m : Meaning) → Lawful m → Lawful (around n m) };
 }
 
 /// A shelf with `size` places of a margin on all four sides of each content of the shelf below.
@@ -71,7 +76,7 @@ impl<S: Shelf, M: Style> Margined<S, M> {
 }
 
 impl<S: Shelf, M: Style> Shelf for Margined<S, M> {
-    ghost meaning = { λ s. margined M.CORNER M.FLAT M.SIDE s.size (S.Shelf.meaning s.below) };
+    ghost meaning = { λ s. M.around s.size (S.Shelf.meaning s.below) };
 
     fn widths(&self, k: u16) -> Result<(u16, u16), Fault> {
         let (least, most) = self.below.widths(k)?;

@@ -1,4 +1,6 @@
 // Blanks around every content of a shelf.
+ghost use Rattle.std.specs.Prelude.{refl};
+ghost use Rattle.shelf.specs.Margins.{padded};
 ghost use Rattle.shelf.proofs.Margins.{padded_lawful};
 
 use crate::margin::{Margined, Style};
@@ -11,6 +13,8 @@ pub const MOST: u8 = 8;
 pub struct Blanks;
 
 impl Style for Blanks {
+    ghost around = { padded };
+
     ghost MOST = { 8 };
     ghost CORNER = { 32 };
     ghost FLAT = { 32 };
@@ -20,6 +24,8 @@ impl Style for Blanks {
     const CORNER: u8 = b' ';
     const FLAT: u8 = b' ';
     const SIDE: u8 = b' ';
+
+    ghost shows = { λ n m. refl };
 
     ghost keeps_lawful = { padded_lawful };
 }
