@@ -1,5 +1,7 @@
 -- End tags, and tags with where they end.
-use Rattle.std.proofs.Common.{◌≡◌, ℕ, ◌<◌, ◌≤◌, Bool, true, false, cond, eqb, List, [], ◌∷◌, length, take, drop, Some, None, Err, Option, Result, sym, refl, ap, ◌∙◌, arith}
+use Rattle.std.proofs.Common.{◌≡◌, ℕ, ◌-◌, ◌<◌, ◌≤◌, Bool, true, false, cond, eqb, List, [], ◌∷◌, length, take, drop, Some, None, Ok, Err, Option, Result, sym, refl, ap, ◌∙◌, arith, length-drop}
+use Rattle.std.specs.Bool.{then_some}
+use Rattle.std.specs.Option.{ok_or}
 use Rattle.std.proofs.lemmas.Bool.{cond_both, cond-true, cond-false, eq-eqb, ne_eqb, eqb-true, eqb-false}
 use Rattle.classes.specs.Classes.{white}
 use Rattle.fault.specs.declared.Reason.{Reason}
@@ -9,10 +11,11 @@ use Rattle.markup.specs.declared.record.Name.{Name}
 use Rattle.markup.specs.declared.record.Tag.{Tag}
 use Rattle.markup.specs.declared.record.Tag.TheVariants.{End}
 use Rattle.markup.specs.Attributes.{Values, Given, Piece, Bad, Last, no_values, given_of, piece_one, piece_at, after_piece, values_of}
-use Rattle.markup.specs.Spans.{letter, front}
-use Rattle.markup.specs.Tags.{name_of, ended, ending_of, named_ending, body_of, before, sized, tag_of}
-use Rattle.markup.specs.Views.{closed}
+use Rattle.markup.specs.Spans.{front}
+use Rattle.markup.specs.Tags.{ended, ending_of, body_of, before, sized, tag_of}
+use Rattle.markup.specs.Views.{closed, closed_within, closing}
 use Rattle.markup.proofs.Ends.{clean}
+use Rattle.markup.proofs.Runs.{front_le}
 
 -- ---- end tags
 
@@ -51,29 +54,64 @@ unfolding after
 more_spoils name [] h = absurd (omega arith)
 more_spoils name (b ∷ bs) h = sym (after_some name (λ z k. values_of none_may z k bs) (b ∷ bs) (front white (b ∷ bs)) h)
 
-pub named_is : (bs : List ℕ) (n : ℕ) (o : Option Name) → n ≡ front letter bs → o ≡ name_of (take n bs) → ending_of (drop n bs) o ≡ named_ending bs
-named_is bs n o e f = ap (ending_of (drop n bs)) f ∙ ap (λ k. ending_of (drop k bs) (name_of (take k bs))) e
+-- the same by a test of what follows the white space
+by_test : (name : Name) (rest : List ℕ) (t : Bool) → eqb (length rest - front white rest) 0 ≡ t → then_some t (End name) ≡ ending_of rest (Some name)
+by_test name rest true e = white_ends name rest (omega (arith, eqb-true (length rest - front white rest) 0 e)) (front_le white rest)
+by_test name rest false e = more_spoils name rest (omega (arith, eqb-false (length rest - front white rest) 0 e))
+
+pub ended_by : (name : Name) (rest more : List ℕ) → more ≡ drop (front white rest) rest → then_some (eqb (length more) 0) (End name) ≡ ending_of rest (Some name)
+ended_by name rest more e =
+    let l : length more ≡ length rest - front white rest = ap length e ∙ length-drop (front white rest) rest in
+    by_test name rest (eqb (length more) 0) (ap (λ z. eqb z 0) (sym l))
 
 -- ---- tags
 
-closed_some : (xs : List ℕ) (n : ℕ) (t : Bool) → clean xs ≡ t → Some n ≡ cond t (Some (before xs)) None → (n ≡ before xs) × (clean xs ≡ true)
-closed_some xs n true e f = (cc, e)
-closed_some xs n false e f = let z : ◌≡◌ {A = ℕ} 0 1 = cc in absurd (omega arith)
+pub closes : (xs : List ℕ) (n : ℕ) → n < length xs → Some n ≡ closed xs → Ok n ≡ closing xs
+closes xs n h e =
+    sym (cond-false (eqb n (length xs)) (Err Malformed) (Ok n) (ne_eqb n (length xs) (λ k. omega arith))) ∙ ap (λ o. closed_within o (length xs)) e
 
-module _ (outermost : Bool) (xs : List ℕ) (n : ℕ) (c : Some n ≡ closed xs) where
-  abbrev inner : Result (Tag × ℕ) Reason
-  inner = sized (body_of outermost (take (before xs) xs)) (before xs)
+pub forbids : (xs : List ℕ) → None ≡ closed xs → Err ByteNotAllowed ≡ closing xs
+forbids xs e = ap (λ o. closed_within o (length xs)) e
 
-  pub closed_before : n ≡ before xs
-  closed_before = (closed_some xs n (clean xs) refl c).0
+pub goes_on : (xs : List ℕ) → Some (length xs) ≡ closed xs → Err Malformed ≡ closing xs
+goes_on xs e =
+    sym (cond-true (eqb (length xs) (length xs)) (Err Malformed) (Ok (length xs)) (eq-eqb (length xs) (length xs) refl)) ∙ ap (λ o. closed_within o (length xs)) e
 
-  tag_opened : tag_of outermost xs ≡ cond (eqb (before xs) (length xs)) (Err Malformed) inner
-  tag_opened = cond-true (clean xs) (cond (eqb (before xs) (length xs)) (Err Malformed) inner) (Err ByteNotAllowed) (closed_some xs n (clean xs) refl c).1
+within_at : (b n : ℕ) (e : Bool) → Ok n ≡ cond e (Err Malformed) (Ok b) → n ≡ b
+within_at b n true h = absurd cc
+within_at b n false h = cc
 
-  pub cut_off : n ≡ length xs → Err Malformed ≡ tag_of outermost xs
-  cut_off e = sym (tag_opened ∙ cond-true (eqb (before xs) (length xs)) (Err Malformed) inner (eq-eqb (before xs) (length xs) (sym closed_before ∙ e)))
+closed_at : (b m n : ℕ) (t : Bool) → Ok n ≡ closed_within (cond t (Some b) None) m → n ≡ b
+closed_at b m n true h = within_at b n (eqb b m) h
+closed_at b m n false h = absurd cc
 
-  pub tag_is : (t : Option Tag) → (n ≡ length xs → ⊥) → t ≡ body_of outermost (take n xs) → sized t n ≡ tag_of outermost xs
-  tag_is t e f =
-      let s : tag_of outermost xs ≡ inner = tag_opened ∙ cond-false (eqb (before xs) (length xs)) (Err Malformed) inner (ne_eqb (before xs) (length xs) (λ k. e (closed_before ∙ k))) in
-      ap (λ z. sized z n) f ∙ ap (λ k. sized (body_of outermost (take k xs)) k) closed_before ∙ sym s
+-- what ends at n has n bytes before its end
+pub closed_before : (xs : List ℕ) (n : ℕ) → Ok n ≡ closing xs → n ≡ before xs
+closed_before xs n e = closed_at (before xs) (length xs) n (clean xs) e
+
+module _ (outermost : Bool) (xs : List ℕ) where
+  -- the tag by where it ends
+  abbrev pub from_end : Result ℕ Reason → Result (Tag × ℕ) Reason
+  from_end (Ok n) = sized (body_of outermost (take n xs)) n
+  from_end (Err e) = Err e
+
+  pub by_end : from_end (closing xs) ≡ tag_of outermost xs
+  by_end =
+      let b = before xs in
+      let inner = cond (eqb b (length xs)) (Err Malformed) (sized (body_of outermost (take b xs)) b) in
+      cond_both (clean xs) (Some b) None (λ o. from_end (closed_within o (length xs)) ≡ cond (clean xs) inner (Err ByteNotAllowed))
+      (λ e. cond_both (eqb b (length xs)) (Err Malformed) (Ok b) (λ r. from_end r ≡ cond (clean xs) inner (Err ByteNotAllowed))
+      (λ f. sym (cond-true (clean xs) inner (Err ByteNotAllowed) e ∙ cond-true (eqb b (length xs)) (Err Malformed) (sized (body_of outermost (take b xs)) b) f))
+      (λ f. sym (cond-true (clean xs) inner (Err ByteNotAllowed) e ∙ cond-false (eqb b (length xs)) (Err Malformed) (sized (body_of outermost (take b xs)) b) f)))
+      (λ e. sym (cond-false (clean xs) inner (Err ByteNotAllowed) e))
+
+  abbrev pub with_size : Result Tag Reason → ℕ → Result (Tag × ℕ) Reason
+  with_size (Ok t) n = Ok (t, n)
+  with_size (Err e) n = Err e
+
+  sized_is : (o : Option Tag) (n : ℕ) → with_size (ok_or o Malformed) n ≡ sized o n
+  sized_is None n = refl
+  sized_is (Some t) n = refl
+
+  pub by_body : (n : ℕ) (r : Result Tag Reason) → Ok n ≡ closing xs → r ≡ ok_or (body_of outermost (take n xs)) Malformed → with_size r n ≡ tag_of outermost xs
+  by_body n r e f = ap (λ z. with_size z n) f ∙ sized_is (body_of outermost (take n xs)) n ∙ ap from_end e ∙ by_end

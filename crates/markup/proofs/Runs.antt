@@ -1,6 +1,8 @@
 -- How far a run of bytes goes.
-use Rattle.std.proofs.Common.{◌≡◌, ℕ, suc, ◌≤◌, Bool, false, List, [], ◌∷◌, ◌++◌, length, take, refl, ap, ◌∙◌, arith}
-use Rattle.std.proofs.lemmas.Bool.{cond_both, cond-true, cond-false}
+use Rattle.std.proofs.Common.{◌≡◌, ℕ, suc, ◌+◌, ◌≤◌, Bool, true, false, not, cond, List, [], ◌∷◌, ◌++◌, length, take, Some, None, ltb, refl, ap, ◌∙◌, arith}
+use Rattle.std.specs.List.{position, position_or_len}
+use Rattle.std.specs.Option.{unwrap_or}
+use Rattle.std.proofs.lemmas.Bool.{cond_both, ltb-false, cond-true, cond-false}
 use Rattle.markup.specs.Form.{Only}
 use Rattle.markup.specs.Spans.{front}
 
@@ -22,3 +24,16 @@ module _ (p : ℕ → Bool) where
   front_stops [] [] o s = refl
   front_stops [] (y ∷ ys) o s = cond-false (p y) (suc (front p ys)) 0 s
   front_stops (x ∷ xs) ys o s = cond-true (p x) (suc (front p (xs ++ ys))) 0 o.0 ∙ ap suc (front_stops xs ys o.1 s)
+
+  not_not : (xs : List ℕ) → position_or_len (λ b. not (p b)) xs ≡ front p xs
+  not_not [] = refl
+  not_not (x ∷ xs) =
+      elim (p x) as (λ t. cond (not (not t)) (1 + position_or_len (λ b. not (p b)) xs) 0 ≡ cond t (suc (front p xs)) 0) [ true ↦ omega (arith, not_not xs) | false ↦ refl ]
+
+  -- it goes up to the first byte that does not pass
+  pub first_not : (xs : List ℕ) → unwrap_or (position (λ b. not (p b)) xs) (length xs) ≡ front p xs
+  first_not xs =
+      let n = position_or_len (λ b. not (p b)) xs in
+      cond_both (ltb n (length xs)) (Some n) None (λ o. unwrap_or o (length xs) ≡ front p xs)
+      (λ _. not_not xs)
+      (λ e. omega (arith, ltb-false n (length xs) e, not_not xs, front_le xs))

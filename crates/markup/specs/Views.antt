@@ -1,12 +1,15 @@
--- What the types of the code stand for, and how far their values reach.
-use Rattle.std.specs.Prelude.{ℕ, ◌<◌, ◌≤◌, Bool, cond, List, take, Some, None, Option}
+-- What the types of the code stand for, and what is left of the bytes once a value is read.
+use Rattle.std.specs.Prelude.{ℕ, Bool, cond, List, length, take, drop, find, Some, None, Ok, Err, Option, Result, ◌==◌}
+use Rattle.std.specs.Option.{option_map}
+use Rattle.std.specs.Borrow.{Bor}
+use Rattle.std.specs.Str.{str_eq_ignore_ascii_case}
 use Rattle.classes.specs.Classes.{white}
+use Rattle.fault.specs.declared.Reason.{Reason}
+use Rattle.fault.specs.declared.Reason.TheVariants.{ByteNotAllowed, Malformed}
 use Rattle.markup.specs.declared.spans.Span.{Span}
 use Rattle.markup.specs.declared.spans.Span.TheVariants.{White, Letters, Digits}
 use Rattle.markup.specs.declared.values.Given as code_given
-use Rattle.markup.specs.declared.values.Piece as code_piece
-use Rattle.markup.specs.declared.values.Piece.TheVariants as code
-use Rattle.markup.specs.Attributes.{Given, Piece, Bad, Last, One}
+use Rattle.markup.specs.Attributes.{Given}
 use Rattle.markup.specs.Spans.{letter, digit}
 use Rattle.markup.specs.Tags.{before, all_allowed}
 
@@ -16,20 +19,36 @@ in_span White = white
 in_span Letters = letter
 in_span Digits = digit
 
+-- what stands beside the first word that the bytes spell, in either case
+abbrev pub spelled : {T : Type 0} → List (List ℕ × T) → List ℕ → Option T
+spelled ws bs = option_map (λ w. w.1) (find (λ w. str_eq_ignore_ascii_case bs w.0) ws)
+
+-- an attribute with its value; `with_given` reads no size
 abbrev pub as_given : code_given.Given → Given
-as_given g = record { name = g.name; value = g.value; size = g.size }
+as_given g = record { name = g.name; value = g.value; size = 0 }
 
-abbrev pub as_piece : code_piece.Piece → Piece
-as_piece code.Bad = Bad
-as_piece code.Last = Last
-as_piece (code.One g n) = One (as_given g) n
+-- what was read, and the bytes after it
+abbrev pub and_rest : {T : Type 0} → Option (T × Bor (List ℕ)) → Option (T × List ℕ)
+and_rest None = None
+and_rest (Some p) = Some (p.0, p.1.now)
 
--- an attribute takes a byte and more, and no more than there are
-abbrev pub Inside : ℕ → code_piece.Piece → Type 0
-Inside n code.Bad = Unit {0}
-Inside n code.Last = Unit {0}
-Inside n (code.One g m) = (0 < m) × (m ≤ n)
+-- what takes so many bytes, and those after it
+abbrev pub left : {T : Type 0} → List ℕ → Option (T × ℕ) → Option (T × List ℕ)
+left bs None = None
+left bs (Some p) = Some (p.0, drop p.1 bs)
+
+abbrev pub given_left : List ℕ → Option Given → Option (code_given.Given × List ℕ)
+given_left bs None = None
+given_left bs (Some g) = Some (record { name = g.name; value = g.value }, drop g.size bs)
 
 -- where a tag ends, if all bytes before are allowed
 abbrev pub closed : List ℕ → Option ℕ
 closed bs = cond (all_allowed (take (before bs) bs)) (Some (before bs)) None
+
+-- a byte that is not allowed, or no end at all
+abbrev pub closed_within : Option ℕ → ℕ → Result ℕ Reason
+closed_within None m = Err ByteNotAllowed
+closed_within (Some n) m = cond (n == m) (Err Malformed) (Ok n)
+
+abbrev pub closing : List ℕ → Result ℕ Reason
+closing bs = closed_within (closed bs) (length bs)

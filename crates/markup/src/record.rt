@@ -1,7 +1,7 @@
 // What a tag says.
 
 /// The names of tags: TABLE, COL, TR, TD, TH and PRE.
-#[derive(Clone, Copy)]
+#[derive(Clone, Copy, PartialEq, Eq, Debug)]
 pub enum Name {
     Table,
     Column,
@@ -11,8 +11,8 @@ pub enum Name {
     Block,
 }
 
-/// The names of attributes.
-#[derive(Clone, Copy)]
+/// The names of attributes, in the order of their values.
+#[derive(Clone, Copy, PartialEq, Eq, Debug)]
 pub enum Attribute {
     Cols,
     Cellspacing,
@@ -24,7 +24,7 @@ pub enum Attribute {
 }
 
 /// What a TABLE tag says. Only that of the outermost table tells a width, padding and a border.
-#[derive(Clone, Copy)]
+#[derive(Clone, Copy, PartialEq, Eq, Debug)]
 pub struct TableTag {
     pub cols: u32,
     pub spacing: u32,
@@ -34,7 +34,7 @@ pub struct TableTag {
 }
 
 /// What a TD or TH tag says.
-#[derive(Clone, Copy)]
+#[derive(Clone, Copy, PartialEq, Eq, Debug)]
 pub struct CellTag {
     pub head: bool,
     pub across: u32,
@@ -42,7 +42,7 @@ pub struct CellTag {
 }
 
 /// A tag, with its attributes or their defaults.
-#[derive(Clone, Copy)]
+#[derive(Clone, Copy, PartialEq, Eq, Debug)]
 pub enum Tag {
     Table(TableTag),
     Column(u32),

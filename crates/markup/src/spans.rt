@@ -1,7 +1,8 @@
-// Bytes that come first, letters in either case, and numbers.
-ghost use Rattle.std.specs.Prelude.{◌≡◌, ◌≤◌, length, drop};
-ghost use Rattle.markup.specs.Spans.{front, lower, spells, number};
-ghost use Rattle.markup.specs.Views.{in_span};
+// Runs of bytes, words in either case, and numbers.
+ghost use Rattle.std.specs.Prelude.{◌≡◌, ◌≤◌, length, take, drop, map};
+ghost use Rattle.std.specs.Str.{str_eq_ignore_ascii_case};
+ghost use Rattle.markup.specs.Spans.{front, number};
+ghost use Rattle.markup.specs.Views.{in_span, spelled};
 
 use classes::{Class, class_of};
 
@@ -17,65 +18,55 @@ pub(crate) enum Span {
 fn is_in(span: Span, b: u8) -> bool
     ensures { result ≡ in_span span b }
 {
-    match (span, class_of(b)) {
-        (Span::White, Class::White) => true,
-        (Span::Letters, Class::Letter) => true,
-        (Span::Digits, Class::Digit) => true,
-        _ => false,
-    }
+    matches!(
+        (span, class_of(b)),
+        (Span::White, Class::White) | (Span::Letters, Class::Letter) | (Span::Digits, Class::Digit)
+    )
 }
 
-/// How long the run is that the bytes begin with.
-pub(crate) fn front(rest: &[u8], span: Span) -> usize
-    ensures value { result ≡ front (in_span span) rest.now }
-    ensures within { result ≤ length rest.now }
+// How long the run is that the bytes begin with.
+fn front(bytes: &[u8], span: Span) -> usize
+    ensures { result ≡ front (in_span span) bytes.now }
 {
-    for (n, b) in rest.iter().enumerate() {
-        if !is_in(span, *b) {
-            return n;
-        }
-    }
-    rest.len()
+    bytes
+        .iter()
+        .position(|b| !is_in(span, *b))
+        .unwrap_or(bytes.len())
 }
 
-/// What comes from the byte `i` on.
-pub(crate) fn tail(rest: &[u8], i: usize) -> &[u8]
-    requires { i ≤ length rest.now }
-    ensures { result.now ≡ drop i rest.now }
+/// The run that the bytes begin with, and what follows it.
+pub(crate) fn split_run(bytes: &[u8], span: Span) -> (&[u8], &[u8])
+    ensures run { result.0.now ≡ take (front (in_span span) bytes.now) bytes.now }
+    ensures rest { result.1.now ≡ drop (front (in_span span) bytes.now) bytes.now }
 {
-    &rest[i..]
+    bytes.split_at(front(bytes, span))
 }
 
-// A letter as a small one.
-fn lower(b: u8) -> u8
-    ensures { result ≡ lower b }
+// Whether the bytes spell the word, in either case.
+fn spells(bytes: &[u8], word: &[u8]) -> bool
+    ensures { result ≡ str_eq_ignore_ascii_case bytes.now word.now }
 {
-    if b >= b'A' && b <= b'Z' { b + 32 } else { b }
+    bytes.eq_ignore_ascii_case(word)
 }
 
-/// Whether the bytes spell the name, which is in small letters, in either case.
-pub(crate) fn spells(bytes: &[u8], name: &[u8]) -> bool
-    ensures { result ≡ spells bytes.now name.now }
+/// What stands beside the word that the bytes spell, in either case.
+pub(crate) fn spelled<T: Copy>(words: &[(&[u8], T)], bytes: &[u8]) -> Option<T>
+    ensures { result ≡ spelled (map (λ w. (w.0.now, w.1)) words.now) bytes.now }
 {
-    if bytes.len() != name.len() {
-        return false;
-    }
-    for i in 0..bytes.len() {
-        if lower(bytes[i]) != name[i] {
-            return false;
-        }
-    }
-    true
+    words
+        .iter()
+        .find(|(word, _)| spells(bytes, word))
+        .map(|(_, named)| *named)
 }
 
-/// What up to five digits come to.
+/// What up to five digits come to. A `for`, as nothing bounds what a `fold` carries from digit to digit.
 pub(crate) fn number(digits: &[u8]) -> u32
     requires { length digits.now ≤ 5 }
     ensures { result ≡ number 0 digits.now }
 {
-    let mut n: u32 = 0;
+    let mut n = 0;
     for d in digits {
-        n = n * 10 + d.saturating_sub(b'0') as u32;
+        n = n * 10 + u32::from(d.saturating_sub(b'0'));
     }
     n
 }

@@ -1,54 +1,47 @@
 // What the bytes of a tag say.
-ghost use Rattle.std.specs.Prelude.{◌≡◌, ◌<◌, ◌≤◌, length, IfSome, IfOk};
+ghost use Rattle.std.specs.Prelude.{◌≡◌, ◌<◌, length, IfOk};
 ghost use Rattle.markup.specs.Attributes.{value_in};
 ghost use Rattle.markup.specs.First.{TagsAre};
 ghost use Rattle.markup.specs.Tags.{name_of, table_of, cell_of, said, named_opening, named_ending, body_of, before, tag_of};
-ghost use Rattle.markup.specs.Views.{closed};
+ghost use Rattle.markup.specs.Views.{closing};
 ghost use Rattle.markup.specs.declared.record.Attribute.TheVariants.{Cols};
 
 use crate::record::{Attribute, CellTag, Name, TableTag, Tag};
-use crate::spans::{Span, front, spells, tail};
-use crate::values::{Values, attributes, index_of};
+use crate::spans::{Span, spelled, split_run};
+use crate::values::{Opening, Values};
 use classes::{Class, class_of};
 use fault::Reason;
+
+// Each name as it is written.
+const NAMES: [(&[u8], Name); 6] = [
+    (b"table", Name::Table),
+    (b"col", Name::Column),
+    (b"tr", Name::Row),
+    (b"td", Name::Data),
+    (b"th", Name::Head),
+    (b"pre", Name::Block),
+];
 
 // The name that the letters spell.
 fn name_of(letters: &[u8]) -> Option<Name>
     ensures { result ≡ name_of letters.now }
 {
-    if spells(letters, b"table") {
-        Some(Name::Table)
-    } else if spells(letters, b"col") {
-        Some(Name::Column)
-    } else if spells(letters, b"tr") {
-        Some(Name::Row)
-    } else if spells(letters, b"td") {
-        Some(Name::Data)
-    } else if spells(letters, b"th") {
-        Some(Name::Head)
-    } else if spells(letters, b"pre") {
-        Some(Name::Block)
-    } else {
-        None
-    }
+    spelled(&NAMES, letters)
 }
 
 // The value of an attribute, if it was given.
 fn value_in(values: &Values, attribute: Attribute) -> Option<u32>
     ensures { result ≡ value_in values.now attribute }
 {
-    values[index_of(attribute)]
+    values[attribute as usize]
 }
 
 // What a TABLE tag says: COLS has no default.
 fn table_tag(values: &Values) -> Option<Tag>
     ensures { result ≡ table_of values.now (value_in values.now Cols) }
 {
-    let Some(cols) = value_in(values, Attribute::Cols) else {
-        return None;
-    };
     Some(Tag::Table(TableTag {
-        cols,
+        cols: value_in(values, Attribute::Cols)?,
         spacing: value_in(values, Attribute::Cellspacing).unwrap_or(1),
         width: value_in(values, Attribute::Width).unwrap_or(80),
         padding: value_in(values, Attribute::Cellpadding).unwrap_or(0),
@@ -85,9 +78,9 @@ fn said(values: &Values, name: Name) -> Option<Tag>
 fn opening_of(body: &[u8], outermost: bool) -> Option<Tag>
     ensures { result ≡ named_opening outermost body.now }
 {
-    let n = front(body, Span::Letters);
-    let name = name_of(&body[0..n])?;
-    let values = attributes(tail(body, n), outermost, name)?;
+    let (letters, rest) = split_run(body, Span::Letters);
+    let name = name_of(letters)?;
+    let values = Opening { name, outermost }.values(rest)?;
     said(&values, name)
 }
 
@@ -95,42 +88,35 @@ fn opening_of(body: &[u8], outermost: bool) -> Option<Tag>
 fn ending_of(body: &[u8]) -> Option<Tag>
     ensures { result ≡ named_ending body.now }
 {
-    let n = front(body, Span::Letters);
-    let name = name_of(&body[0..n])?;
-    let rest = tail(body, n);
-    if front(rest, Span::White) < rest.len() {
-        return None;
-    }
-    Some(Tag::End(name))
+    let (letters, rest) = split_run(body, Span::Letters);
+    let name = name_of(letters)?;
+    let (_, more) = split_run(rest, Span::White);
+    more.is_empty().then_some(Tag::End(name))
 }
 
 // What stands between "<" and ">".
 fn body_of(body: &[u8], outermost: bool) -> Option<Tag>
     ensures { result ≡ body_of outermost body.now }
 {
-    if body.is_empty() {
-        return None;
-    }
-    if body[0] == b'/' {
-        ending_of(tail(body, 1))
-    } else {
-        opening_of(body, outermost)
+    match body.strip_prefix(b"/") {
+        Some(rest) => ending_of(rest),
+        None => opening_of(body, outermost),
     }
 }
 
-// How many bytes stand before the first ">", or all of them where there is none; nothing where one of them is not allowed.
-fn close(rest: &[u8]) -> Option<usize>
-    ensures value { result ≡ closed rest.now }
-    ensures within { IfSome result (λ n. n ≤ length rest.now) }
+// How many bytes stand before the first ">".
+fn close(rest: &[u8]) -> Result<usize, Reason>
+    ensures value { result ≡ closing rest.now }
+    ensures within { IfOk result (λ n. n < length rest.now) }
 {
     for (n, b) in rest.iter().enumerate() {
         match class_of(*b) {
-            Class::Greater => return Some(n),
-            Class::Forbidden => return None,
+            Class::Greater => return Ok(n),
+            Class::Forbidden => return Err(Reason::ByteNotAllowed),
             _ => {}
         }
     }
-    Some(rest.len())
+    Err(Reason::Malformed)
 }
 
 /// The tag after a "<", and how many bytes it has before its ">". `outermost` tells that no table is open.
@@ -139,14 +125,7 @@ pub fn read_tag(rest: &[u8], outermost: bool) -> Result<(Tag, usize), Reason>
     ensures within { IfOk result (λ p. (p.1 ≡ before rest.now) × (p.1 < length rest.now)) }
     ensures first { TagsAre }
 {
-    let Some(n) = close(rest) else {
-        return Err(Reason::ByteNotAllowed);
-    };
-    if n == rest.len() {
-        return Err(Reason::Malformed);
-    }
-    let Some(tag) = body_of(&rest[0..n], outermost) else {
-        return Err(Reason::Malformed);
-    };
+    let n = close(rest)?;
+    let tag = body_of(&rest[..n], outermost).ok_or(Reason::Malformed)?;
     Ok((tag, n))
 }

@@ -1,42 +1,44 @@
 // What has the form of a tag.
-use crate::reading::Answer::*;
-use crate::reading::*;
+use crate::reading::{check, check_sizes, data};
+use markup::{Name, Tag};
 
 #[test]
 fn white_space(rt: HostRuntime) {
-    check_inner(
+    check(
         &rt,
+        false,
         &[
-            (b"/td >", End(3)),
-            (b"td\r\n\t >", Data(1, 1)),
-            (b"td  colspan=2  rowspan=3 >", Data(2, 3)),
-            (b" td>", Refused(19)),
-            (b"/ td>", Refused(19)),
-            (b"td colspan=1rowspan=1>", Refused(19)),
-            (b"td colspan=\"1\"rowspan=1>", Refused(19)),
-            (b"td colspan = 1>", Refused(19)),
-            (b"td colspan= 1>", Refused(19)),
+            (b"/td >", Ok(Tag::End(Name::Data))),
+            (b"td\r\n\t >", Ok(data(1, 1))),
+            (b"td  colspan=2  rowspan=3 >", Ok(data(2, 3))),
+            (b" td>", Err(19)),
+            (b"/ td>", Err(19)),
+            (b"td colspan=1rowspan=1>", Err(19)),
+            (b"td colspan=\"1\"rowspan=1>", Err(19)),
+            (b"td colspan = 1>", Err(19)),
+            (b"td colspan= 1>", Err(19)),
         ],
     );
 }
 
 #[test]
 fn attributes(rt: HostRuntime) {
-    check_inner(
+    check(
         &rt,
+        false,
         &[
-            (b"td/>", Refused(19)),
-            (b"/td colspan=1>", Refused(19)),
-            (b"table cols=2 COLS=3>", Refused(19)),
-            (b"td colspan>", Refused(19)),
-            (b"td colspan=>", Refused(19)),
-            (b"td colspan=\"\">", Refused(19)),
-            (b"td colspan=\"1>", Refused(19)),
-            (b"td colspan='1'>", Refused(19)),
-            (b"td colspan=000001>", Refused(19)),
-            (b"td colspan=\"000001\">", Refused(19)),
-            (b"td colspan=-1>", Refused(19)),
-            (b"td span=1>", Refused(19)),
+            (b"td/>", Err(19)),
+            (b"/td colspan=1>", Err(19)),
+            (b"table cols=2 COLS=3>", Err(19)),
+            (b"td colspan>", Err(19)),
+            (b"td colspan=>", Err(19)),
+            (b"td colspan=\"\">", Err(19)),
+            (b"td colspan=\"1>", Err(19)),
+            (b"td colspan='1'>", Err(19)),
+            (b"td colspan=000001>", Err(19)),
+            (b"td colspan=\"000001\">", Err(19)),
+            (b"td colspan=-1>", Err(19)),
+            (b"td span=1>", Err(19)),
         ],
     );
 }
@@ -44,26 +46,27 @@ fn attributes(rt: HostRuntime) {
 // A byte that is not allowed comes before a tag that is cut off or has another form, and nothing past the ">" counts.
 #[test]
 fn ends(rt: HostRuntime) {
-    check_inner(
+    check(
         &rt,
+        false,
         &[
-            (b"td", Refused(19)),
-            (b"td ", Refused(19)),
-            (b"", Refused(19)),
-            (b"td\x07>", Refused(18)),
-            (b"t\x07", Refused(18)),
-            (b"a \x80 b>", Refused(18)),
-            (b"td>\x07", Data(1, 1)),
-            (b"a<b>", Refused(19)),
+            (b"td", Err(19)),
+            (b"td ", Err(19)),
+            (b"", Err(19)),
+            (b"td\x07>", Err(18)),
+            (b"t\x07", Err(18)),
+            (b"a \x80 b>", Err(18)),
+            (b"td>\x07", Ok(data(1, 1))),
+            (b"a<b>", Err(19)),
         ],
     );
     check_sizes(
         &rt,
         &[
-            (b"td>", 2),
-            (b"td >>", 3),
-            (b"/table> and more>", 6),
-            (b"td", usize::MAX),
+            (b"td>", Some(2)),
+            (b"td >>", Some(3)),
+            (b"/table> and more>", Some(6)),
+            (b"td", None),
         ],
     );
 }

@@ -11,7 +11,7 @@ loop-d-preserved c =
     let h : i < length xs = omega arith in
     let e : number n (drop i xs) ≡ number (n * 10 + (get_or xs i 0 - 48)) (drop (i + 1) xs) = at_drop_more (number n) xs i 0 h in
     let p : 10 ^ (i + 1) ≡ 10 ^ i * 10 = rw add-one (pow-suc 10 i) in
-    (ap (λ z. number (n * 10 + z) (drop (i + 1) xs)) c.saturating_sub.ensures ∙ (sym e ∙ c.loop-d.invariant.0), omega (arith, p, c.loop-d.invariant.1, c.saturating_sub.ensures, c.type_inv.digits i))
+    (ap (λ z. number (n * 10 + z) (drop (i + 1) xs)) (c.from.ensures ∙ c.saturating_sub.ensures) ∙ (sym e ∙ c.loop-d.invariant.0), omega (arith, p, c.loop-d.invariant.1, c.saturating_sub.ensures, c.type_inv.digits i))
 
 pub returns : goal.returns
 returns c =

@@ -1,20 +1,18 @@
-use Rattle.std.proofs.Common.{◌≡◌, ◌-◌, take, Some, ap, ◌∙◌, arith}
+use Rattle.std.proofs.Common.{◌∙◌, drop, Some, ap}
+use Rattle.std.specs.Bool.{then_some}
+use Rattle.markup.specs.declared.record.Tag.TheVariants.{End}
+use Rattle.markup.specs.Spans.{letter, front}
 use Rattle.markup.specs.Tags.{name_of, ending_of}
-use Rattle.markup.proofs.Forms.{white_ends, more_spoils, named_is}
+use Rattle.markup.proofs.Forms.{ended_by}
 use Rattle.markup.proofs.tags.ending_of.Goals as goal
-
-pub returns-then-front-rest : goal.returns-then-front-rest
-returns-then-front-rest c =
-    let n = c.front-n.result in
-    let q : n - 0 ≡ n = omega arith in
-    more_spoils c.in_ok-name.name c.tail-rest.result.now (omega arith) ∙
-    ap (λ z. ending_of z (Some c.in_ok-name.name)) c.tail-rest.ensures ∙
-    named_is c.args.body.now n (Some c.in_ok-name.name) c.front-n.ensures.value (c.in_ok-name.ensures ∙ ap (λ k. name_of (take k c.args.body.now)) q)
 
 pub returns : goal.returns
 returns c =
-    let n = c.front-n.result in
-    let q : n - 0 ≡ n = omega arith in
-    white_ends c.in_ok-name.name c.tail-rest.result.now (omega arith) (omega arith) ∙
-    ap (λ z. ending_of z (Some c.in_ok-name.name)) c.tail-rest.ensures ∙
-    named_is c.args.body.now n (Some c.in_ok-name.name) c.front-n.ensures.value (c.in_ok-name.ensures ∙ ap (λ k. name_of (take k c.args.body.now)) q)
+    let bs = c.args.body.now in
+    let rest = c.split_run.result.1.now in
+    let name = c.in_ok-name.name in
+    c.then_some.ensures ∙
+    ap (λ t. then_some t (End name)) c.is_empty.ensures ∙
+    ended_by name rest c.split_run-2.result.1.now c.split_run-2.ensures.rest ∙
+    ap (λ z. ending_of z (Some name)) c.split_run.ensures.rest ∙
+    ap (ending_of (drop (front letter bs) bs)) (c.in_ok-name.ensures ∙ ap name_of c.split_run.ensures.run)
