@@ -40,8 +40,11 @@ fn value_in(values: &Values, attribute: Attribute) -> Option<u32>
 fn table_tag(values: &Values) -> Option<Tag>
     ensures { result ≡ table_of values.now (value_in values.now Cols) }
 {
+    let Some(cols) = value_in(values, Attribute::Cols) else {
+        return None;
+    };
     Some(Tag::Table(TableTag {
-        cols: value_in(values, Attribute::Cols)?,
+        cols,
         spacing: value_in(values, Attribute::Cellspacing).unwrap_or(1),
         width: value_in(values, Attribute::Width).unwrap_or(80),
         padding: value_in(values, Attribute::Cellpadding).unwrap_or(0),
