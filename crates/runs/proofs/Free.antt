@@ -3,7 +3,7 @@ use Rattle.std.proofs.Common.{◌≡◌, ℕ, zero, suc, Bool, true, false, not,
 use Rattle.std.specs.List.{slice_get}
 use Rattle.std.proofs.lemmas.Bool.{and_left, and_right, and_from, eq-eqb, ne_eqb}
 use Rattle.plan.specs.declared.record.Cell.{Cell}
-use Rattle.runs.specs.Cells.{takes, free_in}
+use Rattle.plan.specs.Cells.{takes, free_in}
 
 and_swap : (a b c : Bool) → (a && b) && c ≡ a && (b && c)
 and_swap true b c = refl

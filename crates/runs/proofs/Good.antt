@@ -13,7 +13,7 @@ use Rattle.plan.specs.Stock.{Stock, full}
 use Rattle.plan.specs.Steps.{table_range, span_range, columns_of, current_row, row_at, width_at, spot_to, column_for, sized, new_cell, with_row, with_sizing, with_cell, place_in, place_at, nest_in, nest_at}
 use Rattle.plan.specs.Taken.{spot}
 use Rattle.plan.proofs.Spots.{spot_found}
-use Rattle.runs.specs.Cells.{by_cells}
+use Rattle.plan.specs.Cells.{by_cells}
 use Rattle.runs.specs.State.{State, empty}
 use Rattle.runs.specs.Calls.{Call, Start, Row, Place, Nest, Width, changed, added, after_of, next, run, Reached}
 use Rattle.runs.proofs.Lists.{nth_below}
@@ -92,10 +92,9 @@ good_row s t (Some b) e g =
     let a = g.standing.able t b e in
     good_kept s.tables.items s.cells.items t b (with_row b) e
     (record {
-      able = record { some = a.some; few = a.few; narrow = a.narrow; in_rows = omega arith; rows = omega (arith, a.rows, ltb-true b.begun 64 h) };
+      able = record { some = a.some; few = a.few; narrow = a.narrow; in_rows = omega arith; rows = omega (arith, a.rows, ltb-true b.begun 64 h); columns_there = a.columns_there; rows_there = a.rows_there };
       count_is = refl;
       taken_is = refl;
-      columns_are = refl;
       begun_up = omega arith;
       reached_up = omega arith;
     }) g)
@@ -109,10 +108,9 @@ good_width s t j f (Some b) e g =
     let a = g.standing.able t b e in
     good_kept s.tables.items s.cells.items t b (with_sizing b j f) e
     (record {
-      able = record { some = a.some; few = a.few; narrow = a.narrow; in_rows = a.in_rows; rows = a.rows };
+      able = record { some = a.some; few = a.few; narrow = a.narrow; in_rows = a.in_rows; rows = a.rows; columns_there = length-set b.columns j (sized (get_or b.columns j blank_column) f) ∙ a.columns_there; rows_there = a.rows_there };
       count_is = refl;
       taken_is = refl;
-      columns_are = length-set b.columns j (sized (get_or b.columns j blank_column) f);
       begun_up = omega arith;
       reached_up = omega arith;
     }) g)

@@ -8,7 +8,7 @@ use Rattle.plan.specs.declared.record.Table.{Table}
 use Rattle.plan.specs.Blank.{blank_table}
 use Rattle.plan.specs.Stock.{Stock}
 use Rattle.plan.specs.Steps.{Added, start_tables, row_tables, width_tables, place_lists, nest_lists, with_row, with_sizing, with_cell}
-use Rattle.runs.specs.Cells.{by_cells}
+use Rattle.plan.specs.Cells.{by_cells}
 use Rattle.runs.specs.State.{State}
 use Rattle.runs.specs.Calls.{Call, Start, Row, Place, Nest, Width, changed, added, after_of, next, run}
 use Rattle.runs.proofs.Lists.{nth_same, nth_old, nth_set_same, nth_set_other}

@@ -9,7 +9,7 @@ use Rattle.plan.specs.declared.record.Table.{Table}
 use Rattle.plan.specs.Blank.{blank_table}
 use Rattle.plan.specs.Stock.{Stock, with_new, with_item}
 use Rattle.plan.specs.Steps.{Added, place_lists, nest_lists, new_cell}
-use Rattle.runs.specs.Cells.{by_cells}
+use Rattle.plan.specs.Cells.{by_cells}
 use Rattle.runs.specs.State.{State}
 use Rattle.runs.specs.Calls.{Call, Place, Nest, Answer, Done, Number, Outcome, added, wanted, after_of, next, run}
 use Rattle.runs.specs.History.{Stands, Shaped, Hangs, Told}

@@ -44,6 +44,8 @@ planned_reached s t =
         narrow = ∥∥₁_elim t (hlevel props) (λ r. ((of r).able k b e).narrow);
         in_rows = ∥∥₁_elim t (hlevel props) (λ r. ((of r).able k b e).in_rows);
         rows = ∥∥₁_elim t (hlevel props) (λ r. ((of r).able k b e).rows);
+        columns_there = ∥∥₁_elim t (hlevel props) (λ r. ((of r).able k b e).columns_there);
+        rows_there = ∥∥₁_elim t (hlevel props) (λ r. ((of r).able k b e).rows_there);
       };
       known = λ k c e. ∥∥₁_elim t (hlevel props) (λ r. (of r).known k c e);
       within = λ k c b e f. record {

@@ -9,7 +9,7 @@ use Rattle.plan.specs.declared.record.Table.{Table}
 use Rattle.plan.specs.Done.{by_record}
 use Rattle.plan.specs.Steps.{columns_of, current_row, spot_to, column_for, span_range, table_range, place_in, place_at, place_lists, nest_in, nest_at, nest_lists}
 use Rattle.plan.proofs.Spots.{spot_same}
-use Rattle.runs.specs.Cells.{by_cells}
+use Rattle.plan.specs.Cells.{by_cells}
 use Rattle.runs.specs.State.{State}
 use Rattle.runs.specs.Calls.{Reached}
 use Rattle.runs.specs.Laws.{RecordTied}

@@ -8,7 +8,7 @@ use Rattle.plan.specs.declared.record.Table.{Table}
 use Rattle.plan.specs.Blank.{blank_column, blank_table}
 use Rattle.plan.specs.Stock.{Stock, with_new, with_item}
 use Rattle.plan.specs.Steps.{Added, start_tables, row_tables, width_tables, place_lists, nest_lists, sizing_of, sized, with_row, with_sizing, with_cell}
-use Rattle.runs.specs.Cells.{by_cells}
+use Rattle.plan.specs.Cells.{by_cells}
 use Rattle.runs.specs.State.{State}
 use Rattle.runs.specs.Calls.{Call, Start, Row, Place, Nest, Width, changed, added, after_of, next, run}
 use Rattle.runs.specs.History.{sizing_in, sizing_at, set_by, last_set}
@@ -84,7 +84,7 @@ module _ (s : State) (g : Sound s) (t j : ℕ) where
       let p = width_told s.tables ts u i f e in
       let b = p.0 in
       to_tables ts (with_item s.tables u (with_sizing b i f)) p.1.1.is ∙
-      sizing_width s.tables.items u i f b t j p.1.1.there (omega (arith, p.1.0, g.standing.broad u b p.1.1.there))
+      sizing_width s.tables.items u i f b t j p.1.1.there (omega (arith, p.1.0, (g.standing.able u b p.1.1.there).columns_there))
 
   module _ (u across down : ℕ) where
     abbrev free : ℕ → Table → ℕ → Bool

@@ -13,8 +13,8 @@ use Rattle.plan.specs.Blank.{blank_table}
 use Rattle.plan.specs.Steps.{columns_of, current_row, new_cell, with_cell}
 use Rattle.plan.specs.Taken.{open_at}
 use Rattle.plan.proofs.Raised.{length_raised, raised_in, raised_out}
-use Rattle.runs.specs.Cells.{takes, free_in}
-use Rattle.runs.specs.Laws.{Apart, CameLowest, Within, Able}
+use Rattle.plan.specs.Cells.{takes, free_in}
+use Rattle.plan.specs.Planned.{Apart, CameLowest, Within, Able}
 use Rattle.runs.proofs.Lists.{nth_below, nth_push, nth_set, nth_take}
 use Rattle.runs.proofs.Free.{free_push, not_free, all_free}
 
@@ -25,7 +25,6 @@ Tied cs t b = (r j : ℕ) → current_row b ≤ r → j < columns_of b → open_
 pub record Standing (ts : List Table) (cs : List Cell) : Type 0 where
   pub able : (t : ℕ) (b : Table) → slice_get ts t ≡ Some b → Able b
   pub long : (t : ℕ) (b : Table) → slice_get ts t ≡ Some b → length b.taken.until ≡ 32
-  pub broad : (t : ℕ) (b : Table) → slice_get ts t ≡ Some b → length b.columns ≡ 32
   pub known : (k : ℕ) (c : Cell) → slice_get cs k ≡ Some c → c.table < length ts
   pub within : (k : ℕ) (c : Cell) (b : Table) → slice_get cs k ≡ Some c → slice_get ts c.table ≡ Some b → Within c b
   pub begun : (k : ℕ) (c : Cell) (b : Table) → slice_get cs k ≡ Some c → slice_get ts c.table ≡ Some b → c.row < b.begun
@@ -40,7 +39,6 @@ pub standing_none : Standing [] []
 standing_none = record {
   able = λ t b e. nothing t b e;
   long = λ t b e. nothing t b e;
-  broad = λ t b e. nothing t b e;
   known = λ k c e. nothing k c e;
   within = λ k c b e f. nothing k c e;
   begun = λ k c b e f. nothing k c e;
@@ -57,11 +55,10 @@ blank_open n q r j h = le-leb (get_or (replicate 32 0) j 0) r (omega (arith, get
 pub standing_table : (ts : List Table) (cs : List Cell) (n q : ℕ) → 1 ≤ n → n ≤ 32 → q ≤ 8 → Standing ts cs → Standing (ts ++ blank_table n q ∷ []) cs
 standing_table ts cs n q some few narrow s =
     let b : Table = blank_table n q in
-    let blank : Able b = record { some = some; few = few; narrow = narrow; in_rows = omega arith; rows = omega arith } in
+    let blank : Able b = record { some = some; few = few; narrow = narrow; in_rows = omega arith; columns_there = refl; rows_there = refl; rows = omega arith } in
     record {
       able = λ t d e. elim (nth_push ts b t d e) [ inl h ↦ s.able t d h | inr h ↦ subst Able h.1 blank ];
       long = λ t d e. elim (nth_push ts b t d e) [ inl h ↦ s.long t d h | inr h ↦ subst (λ x. length x.taken.until ≡ 32) h.1 refl ];
-      broad = λ t d e. elim (nth_push ts b t d e) [ inl h ↦ s.broad t d h | inr h ↦ subst (λ x. length x.columns ≡ 32) h.1 refl ];
       known = λ k c e. omega (arith, s.known k c e, length_push ts b);
       within = λ k c d e f. elim (nth_push ts b c.table d f) [ inl h ↦ s.within k c d e h | inr h ↦ absurd (omega (arith, s.known k c e, h.0)) ];
       begun = λ k c d e f. elim (nth_push ts b c.table d f) [ inl h ↦ s.begun k c d e h | inr h ↦ absurd (omega (arith, s.known k c e, h.0)) ];
@@ -80,7 +77,6 @@ pub record Kept (b d : Table) : Type 0 where
   pub able : Able d
   pub count_is : d.count ≡ b.count
   pub taken_is : d.taken ≡ b.taken
-  pub columns_are : length d.columns ≡ length b.columns
   pub begun_up : b.begun ≤ d.begun
   pub reached_up : b.reached ≤ d.reached
 
@@ -103,7 +99,6 @@ module _ (ts : List Table) (cs : List Cell) (t : ℕ) (b d : Table) (e : slice_g
   standing_kept k s = record {
     able = λ i x p. elim (nth_set ts t d i x p) [ inl h ↦ subst Able h.1 k.able | inr h ↦ s.able i x h.1 ];
     long = λ i x p. elim (nth_set ts t d i x p) [ inl h ↦ subst (λ y. length y.taken.until ≡ 32) h.1 (ap (λ y. length y.until) k.taken_is ∙ s.long t b e) | inr h ↦ s.long i x h.1 ];
-    broad = λ i x p. elim (nth_set ts t d i x p) [ inl h ↦ subst (λ y. length y.columns ≡ 32) h.1 (k.columns_are ∙ s.broad t b e) | inr h ↦ s.broad i x h.1 ];
     known = λ i c p. omega (arith, s.known i c p, length-set ts t d);
     within = by_table Within (λ c w. within_kept c b d k w) s.within;
     begun = by_table (λ c x. c.row < x.begun) (λ c w. omega (arith, k.begun_up)) s.begun;
@@ -136,7 +131,7 @@ module _ (ts : List Table) (cs : List Cell) (t : ℕ) (b : Table) (e : slice_get
     d = with_cell b j across down
 
     able_cell : Able d
-    able_cell = let a = s.able t b e in record { some = a.some; few = a.few; narrow = a.narrow; in_rows = omega (arith, a.in_rows); rows = omega (arith, a.rows, f.low) }
+    able_cell = let a = s.able t b e in record { some = a.some; few = a.few; narrow = a.narrow; in_rows = omega (arith, a.in_rows); rows = omega (arith, a.rows, f.low); columns_there = a.columns_there; rows_there = a.rows_there }
 
     within_cell : Within c d
     within_cell = record { wide = f.wide; tall = f.tall; columns = f.within; rows = omega arith }
@@ -206,7 +201,6 @@ module _ (ts : List Table) (cs : List Cell) (t : ℕ) (b : Table) (e : slice_get
     standing_cell = record {
       able = λ i x p. elim (nth_set ts t d i x p) [ inl h ↦ subst Able h.1 able_cell | inr h ↦ s.able i x h.1 ];
       long = λ i x p. elim (nth_set ts t d i x p) [ inl h ↦ subst (λ y. length y.taken.until ≡ 32) h.1 (length_raised b.taken.until j across (current_row b + down) ∙ s.long t b e) | inr h ↦ s.long i x h.1 ];
-      broad = λ i x p. elim (nth_set ts t d i x p) [ inl h ↦ subst (λ y. length y.columns ≡ 32) h.1 (s.broad t b e) | inr h ↦ s.broad i x h.1 ];
       known = λ k x p. elim (nth_push cs c k x p) [
         | inl h ↦ omega (arith, s.known k x h, length-set ts t d)
         | inr h ↦ subst (λ (y : Cell). y.table < length (set ts t d)) h.1 (omega (arith, nth_below ts t b e, length-set ts t d))

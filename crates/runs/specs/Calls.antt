@@ -5,7 +5,7 @@ use Rattle.plan.specs.declared.record.Cell.{Cell}
 use Rattle.plan.specs.declared.record.Table.{Table}
 use Rattle.plan.specs.Stock.{Stock}
 use Rattle.plan.specs.Steps.{Added, start_tables, row_tables, width_tables, place_lists, nest_lists}
-use Rattle.runs.specs.Cells.{by_cells}
+use Rattle.plan.specs.Cells.{by_cells}
 use Rattle.runs.specs.State.{State, empty}
 
 -- a call with what it is passed

@@ -1,4 +1,3 @@
-pub mod Cells
 pub mod State
 pub mod Calls
 pub mod Laws
