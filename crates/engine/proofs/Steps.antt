@@ -9,6 +9,9 @@ use Rattle.plan.specs.Steps.{Added, place_lists, nest_lists}
 use Rattle.plan.specs.Stock.{Stock, held}
 use Rattle.runs.specs.State.{State, state_of}
 use Rattle.runs.specs.Calls.{Call, Place, Nest, Done, Number, changed, added, wanted, Reached}
+use Rattle.engine.proofs.Same.{same_sheet}
+use Rattle.engine.specs.View.{state, DidSo}
+use Rattle.engine.specs.declared.hold.Sheet.{Sheet}
 use Rattle.runs.proofs.Planned.{reached_by}
 use Rattle.runs.proofs.Same.{tied_reached, place_same, nest_same}
 
@@ -22,10 +25,6 @@ module _ (ts ts' : Lent.List Table) (cs : Lent.List Cell) (laid to : Bool) (c : 
   pub reached_either : to ≡ laid → (r : Result Unit Fault) → Changed want ts ts' r → ∥ Reached (state_of ts cs laid) ∥₁ → ∥ Reached (state_of ts' cs laid) ∥₁
   reached_either stays (Ok _) e t = subst (λ b. ∥ Reached (state_of ts' cs b) ∥₁) stays (reached_changed e t)
   reached_either stays (Err f) e t = subst (λ l. ∥ Reached (state_of l cs laid) ∥₁) (sym e.1) t
-
--- lists that a declined call left as they were
-pub reached_same : (ts ts' : Lent.List Table) (cs cs' : Lent.List Cell) (laid : Bool) → ts' ≡ ts → cs' ≡ cs → ∥ Reached (state_of ts cs laid) ∥₁ → ∥ Reached (state_of ts' cs' laid) ∥₁
-reached_same ts ts' cs cs' laid p q t = subst (λ l. ∥ Reached (state_of ts' l laid) ∥₁) (sym q) (subst (λ l. ∥ Reached (state_of l cs laid) ∥₁) (sym p) t)
 
 -- a cell more
 module _ (ts ts' : Lent.List Table) (cs cs' : Lent.List Cell) (laid : Bool) (c : Call) (want : Result Added Fault) (is : wanted (state_of ts cs laid) c ≡ added want) (i : ℕ) (e : Grew want ts' cs' i) where
@@ -42,3 +41,12 @@ module _ (s : State) (reached : ∥ Reached s ∥₁) (t across down : ℕ) wher
 
   pub nest_is : (n q : ℕ) → wanted s (Nest t across down n q) ≡ added (nest_lists by_record s.tables s.cells t across down n q)
   nest_is n q = ap added (sym (nest_same s (tied_reached s reached) t across down n q))
+
+-- a call that changes the tables alone, where the flag stays as it is
+module _ (m : Sheet) (ts : Lent.List Table) (reached : ∥ Reached (state_of ts m.cells m.laid) ∥₁) (want : Result (Stock Table) Fault) where
+  abbrev after : Sheet
+  after = record { tables = ts; cells = m.cells; laid = m.laid; reached = reached }
+
+  pub did_changed : (r : Result Unit Fault) → Changed want m.tables ts r → DidSo (changed (state m) m.laid want) m after r
+  did_changed (Ok _) e = ap (changed (state m) m.laid) e
+  did_changed (Err f) e = (ap (changed (state m) m.laid) e.0, same_sheet after m e.1 refl refl)

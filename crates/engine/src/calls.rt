@@ -29,8 +29,7 @@ impl<'t, 'c> Sheet<'t, 'c> {
     pub fn start(&mut self, count: u8, spacing: u8) -> Result<(), Fault>
         ensures { DidSo (wanted (state self.old) (Start count spacing)) self.old self.new result }
     {
-        start_table(&mut self.tables, count, spacing)?;
-        Ok(())
+        start_table(&mut self.tables, count, spacing)
     }
 }
 

@@ -20,7 +20,7 @@ impl<'a, T: Copy> List<'a, T> {
     pub fn len(&self) -> usize
         ensures { result ≡ length (items self.now) }
     {
-        self.len.min(self.places.len())
+        self.len
     }
 
     /// How many items there is room for in all.
@@ -39,7 +39,7 @@ impl<'a, T: Copy> List<'a, T> {
             return Err(Fault::new(Reason::Full));
         }
         self.places[at] = x;
-        self.len = at + 1;
+        self.len += 1;
         Ok(at)
     }
 
@@ -47,18 +47,15 @@ impl<'a, T: Copy> List<'a, T> {
     pub fn get(&self, i: usize) -> Option<T>
         ensures { result ≡ slice_get (items self.now) i }
     {
-        if i < self.len {
-            self.places.get(i).copied()
-        } else {
-            None
-        }
+        self.items().get(i).copied()
     }
 
+    // A loan of an item, as `get_mut`, is not covered by the check past a struct's ghost field: an item is copied out and put back.
     /// Puts x in the place of item i; false where there is no such item.
     pub fn set(&mut self, i: usize, x: T) -> bool
         ensures { Put self.old i x self.new result }
     {
-        if i < self.len() {
+        if i < self.len {
             self.places[i] = x;
             true
         } else {
@@ -70,20 +67,15 @@ impl<'a, T: Copy> List<'a, T> {
     pub fn pop(&mut self) -> Option<T>
         ensures { Popped self.old result self.new }
     {
-        let n = self.len();
-        if n == 0 {
-            return None;
-        }
-        let last = self.get(n - 1);
-        self.len = n - 1;
-        last
+        let last = self.items().last().copied()?;
+        self.len -= 1;
+        Some(last)
     }
 
     /// The items, for reading.
     pub fn items(&self) -> &[T]
         ensures { result.now ≡ items self.now }
     {
-        let n = self.len();
-        &self.places[0..n]
+        &self.places[..self.len]
     }
 }

@@ -1,38 +1,103 @@
 -- Free columns one after the other, and what a span that was found tells.
-use Rattle.std.proofs.Common.{◌≡◌, ℕ, zero, suc, ◌+◌, ◌-◌, ◌<◌, ◌≤◌, Bool, true, false, cond, ◌&&◌, leb, List, set, Some, None, sym, refl, ap, ◌∙◌, inl, inr, arith}
-use Rattle.std.proofs.lemmas.Bool.{cond_both, cond-true, cond-false, cases_Bool, cases_eq, and_parts, leb-true}
-use Rattle.plan.specs.Taken.{lowest, clear, spot, raised}
+use Rattle.std.proofs.Common.{◌≡◌, ℕ, zero, suc, ◌+◌, ◌-◌, ◌<◌, ◌≤◌, Bool, true, false, cond, ◌&&◌, leb, List, [], ◌∷◌, length, take, drop, get_or, ltb, Some, None, sym, refl, ap, ◌∙◌, inl, inr, arith, length-take-le, get_or-take, get_or-drop}
+use Rattle.std.proofs.lemmas.Option.{none-some}
+use Rattle.std.proofs.lemmas.Bool.{cond_both, cond-true, cond-false, cases_Bool, cases_eq, and_parts, leb-true, le-leb, lt-leb, ltb-false}
+use Rattle.std.specs.List.{list_all, position, position_or_len, slice_range}
+use Rattle.std.specs.Bool.{then_some}
+use Rattle.plan.specs.Taken.{lowest, clear, spot}
 
 some_same : (i j : ℕ) → Some i ≡ Some j → i ≡ j
 some_same i j e = cc
 
-none_some : (j : ℕ) → None ≡ Some j → ⊥
-none_some j e = let z : ◌≡◌ {A = ℕ} 0 1 = cc in omega arith
+then_cond : (b : Bool) (j : ℕ) → then_some b j ≡ cond b (Some j) None
+then_cond true j = refl
+then_cond false j = refl
 
-module _ (free : ℕ → Bool) where
-  pub lowest_more : (j n : ℕ) → j < n → lowest free j (n - j) ≡ cond (free j) j (lowest free (j + 1) (n - (j + 1)))
-  lowest_more j n h =
-      let e : n - j ≡ suc (n - (j + 1)) = omega arith in
-      let s : suc j ≡ j + 1 = omega arith in
-      ap (lowest free j) e ∙ ap (λ k. cond (free j) j (lowest free k (n - (j + 1)))) s
+-- what the code reads of a list of columns
+module _ (p : ℕ → Bool) where
+  at_first : (y : ℕ) (ys : List ℕ) → p y ≡ true → position_or_len p (y ∷ ys) ≡ 0
+  at_first y ys h = simp h
 
-  pub lowest_all : (j n : ℕ) → j ≡ n → lowest free j (n - j) ≡ n
-  lowest_all j n h = let e : n - j ≡ 0 = omega arith in ap (lowest free j) e ∙ h
+  past_first : (y : ℕ) (ys : List ℕ) → p y ≡ false → position_or_len p (y ∷ ys) ≡ 1 + position_or_len p ys
+  past_first y ys h = simp h
 
-  pub clear_more : (k end : ℕ) → k < end → clear free k (end - k) ≡ (free k && clear free (k + 1) (end - (k + 1)))
-  clear_more k end h =
-      let e : end - k ≡ suc (end - (k + 1)) = omega arith in
-      let s : suc k ≡ k + 1 = omega arith in
-      ap (clear free k) e ∙ ap (λ i. free k && clear free i (end - (k + 1))) s
+  lowest_is : (free : ℕ → Bool) (j : ℕ) (ys : List ℕ) → ((i : ℕ) → i < length ys → free (j + i) ≡ p (get_or ys i 0)) → lowest free j (length ys) ≡ j + position_or_len p ys
+  lowest_is free j [] e = omega arith
+  lowest_is free j (y ∷ ys) e =
+      let first : free j ≡ p y = ap free (omega arith) ∙ e 0 (omega arith) in
+      elim (cases_Bool (p y)) [
+        | inl h ↦ cond-true (free j) _ _ (first ∙ h) ∙ omega (arith, at_first y ys h)
+        | inr h ↦
+            let rest = lowest_is free (suc j) ys (λ i k. ap free (omega arith) ∙ e (suc i) (omega arith)) in
+            cond-false (free j) _ _ (first ∙ h) ∙ omega (arith, rest, past_first y ys h)
+      ]
 
-  pub clear_all : (k end : ℕ) → end ≤ k → clear free k (end - k) ≡ true
-  clear_all k end h = let e : end - k ≡ 0 = omega arith in ap (clear free k) e
+  clear_is : (free : ℕ → Bool) (j : ℕ) (ys : List ℕ) → ((i : ℕ) → i < length ys → free (j + i) ≡ p (get_or ys i 0)) → clear free j (length ys) ≡ list_all p ys
+  clear_is free j [] e = refl
+  clear_is free j (y ∷ ys) e =
+      let first : free j ≡ p y = ap free (omega arith) ∙ e 0 (omega arith) in
+      ap (λ b. b && clear free (suc j) (length ys)) first ∙
+      ap (λ b. p y && b) (clear_is free (suc j) ys (λ i k. ap free (omega arith) ∙ e (suc i) (omega arith)))
 
-pub raised_more : (xs : List ℕ) (j k v : ℕ) → j ≤ k → set (raised xs j (k - j) v) k v ≡ raised xs j (k + 1 - j) v
-raised_more xs j k v h =
-    let e : k + 1 - j ≡ suc (k - j) = omega arith in
-    let s : j + (k - j) ≡ k = omega arith in
-    ap (λ i. set (raised xs j (k - j) v) i v) (sym s) ∙ ap (λ n. raised xs j n v) (sym e)
+  position_none : (ys : List ℕ) → position p ys ≡ None → length ys ≤ position_or_len p ys
+  position_none ys e =
+      let n = position_or_len p ys in
+      elim (cases_Bool (ltb n (length ys))) [
+        | inl h ↦ absurd (none-some n (sym e ∙ cond-true (ltb n (length ys)) (Some n) None h))
+        | inr h ↦ ltb-false n (length ys) h
+      ]
+
+  position_some : (ys : List ℕ) (j : ℕ) → position p ys ≡ Some j → position_or_len p ys ≡ j
+  position_some ys j e =
+      let n = position_or_len p ys in
+      elim (cases_Bool (ltb n (length ys))) [
+        | inl h ↦ some_same n j (sym (cond-true (ltb n (length ys)) (Some n) None h) ∙ e)
+        | inr h ↦ absurd (none-some j (sym (cond-false (ltb n (length ys)) (Some n) None h) ∙ e))
+      ]
+
+-- where a span goes, told by the first open column and by those that it covers
+module _ (xs : List ℕ) (row count across : ℕ) (there : count ≤ length xs) (some : 1 ≤ across) where
+  abbrev free : ℕ → Bool
+  free j = leb (get_or xs j 0) row
+
+  abbrev is_open : ℕ → Bool
+  is_open until = leb until row
+
+  low : lowest free 0 count ≡ position_or_len is_open (take count xs)
+  low =
+      let n : length (take count xs) ≡ count = length-take-le count xs there in
+      let first = lowest_is is_open free 0 (take count xs) (λ i h. ap free (omega arith) ∙ ap is_open (sym (get_or-take count xs i 0 (omega (arith, n))))) in
+      ap (lowest free 0) (sym n) ∙ omega (arith, first)
+
+  spot_past : (low_at : ℕ) → lowest free 0 count ≡ low_at → count < low_at + across → spot free count across ≡ None
+  spot_past low_at e h =
+      let past : leb (lowest free 0 count + across) count ≡ false = lt-leb _ _ (omega arith) in
+      cond-false (leb (lowest free 0 count + across) count && clear free (lowest free 0 count) across) (Some (lowest free 0 count)) None
+      (ap (λ b. b && clear free (lowest free 0 count) across) past)
+
+  pub spot_none : position is_open (take count xs) ≡ None → None ≡ spot free count across
+  spot_none e = sym (spot_past _ low (omega (arith, position_none is_open (take count xs) e, length-take-le count xs there)))
+
+  pub spot_short : (j : ℕ) → position is_open (take count xs) ≡ Some j → count < j + across → None ≡ spot free count across
+  spot_short j e h = sym (spot_past j (low ∙ position_some is_open (take count xs) j e) h)
+
+  pub spot_at : (j : ℕ) (cs : List ℕ) → position is_open (take count xs) ≡ Some j → j + across ≤ count → cs ≡ slice_range (take count xs) j (j + across) → length cs ≡ across → then_some (list_all is_open cs) j ≡ spot free count across
+  spot_at j cs e h is n =
+      let at : lowest free 0 count ≡ j = low ∙ position_some is_open (take count xs) j e in
+      let cleared : clear free j across ≡ list_all is_open cs =
+      ap (clear free j) (sym n) ∙ clear_is is_open free j cs (λ i k. sym (ap (λ ys. is_open (get_or ys i 0)) is ∙ ap is_open (covered i (omega (arith, n))))) in
+      let fits : leb (j + across) count ≡ true = le-leb _ _ h in
+      then_cond (list_all is_open cs) j ∙
+      sym
+      (ap (λ k. cond (leb (k + across) count && clear free k across) (Some k) None) at ∙
+      ap (λ b. cond (b && clear free j across) (Some j) None) fits ∙
+      ap (λ b. cond b (Some j) None) cleared)
+    where
+      covered : (i : ℕ) → i < across → get_or (slice_range (take count xs) j (j + across)) i 0 ≡ get_or xs (j + i) 0
+      covered i k =
+          get_or-take (j + across - j) (drop j (take count xs)) i 0 (omega arith) ∙
+          get_or-drop j (take count xs) i 0 ∙
+          get_or-take count xs (j + i) 0 (omega arith)
 
 module _ (free : ℕ → Bool) where
   lowest_from : (j n : ℕ) → j ≤ lowest free j n
@@ -75,7 +140,7 @@ module _ (free : ℕ → Bool) where
               clear_is = λ i a b. clear_each low across i p.1 (omega arith) (omega arith);
               lowest_is = λ i a. lowest_taken 0 count i (omega arith) (omega arith);
             }
-        | inr h ↦ let z = sym (cond-false (leb (low + across) count && clear free low across) (Some low) None h) ∙ e in absurd (none_some j z)
+        | inr h ↦ let z = sym (cond-false (leb (low + across) count && clear free low across) (Some low) None h) ∙ e in absurd (none-some j z)
       ]
 
 -- two tests that agree on all columns find the same

@@ -3,6 +3,7 @@
 
 mod calls;
 mod record;
+mod span;
 mod taken;
 
 pub use calls::{begin_row, fix_width, nest_table, place_content, start_table};

@@ -1,6 +1,7 @@
 // The records of a sheet.
 ghost use Rattle.std.specs.Prelude.{◌≡◌};
 ghost use Rattle.plan.specs.Blank.{blank_column, blank_table, blank_cell, no_rect};
+ghost use Rattle.plan.specs.Steps.{sizing_of};
 
 use crate::taken::Taken;
 
@@ -11,21 +12,22 @@ pub const COLUMNS: usize = 32;
 pub const ROWS: usize = 64;
 
 /// The two ways in which a table is parted: into columns, and into rows.
-#[derive(Clone, Copy)]
+#[derive(Clone, Copy, PartialEq, Eq, Debug)]
 pub enum Axis {
     Columns,
     Rows,
 }
 
 /// How a column comes to its width: by its contents, or fixed at a width.
-#[derive(Clone, Copy)]
+// Not an `Option`: the two words are those of the rules, and a third way of sizing has room here.
+#[derive(Clone, Copy, PartialEq, Eq, Debug)]
 pub enum Sizing {
     Free,
     Fixed(u16),
 }
 
 /// A column of a table: how it is sized, its least and greatest width, and the width that a layout gave it.
-#[derive(Clone, Copy)]
+#[derive(Clone, Copy, PartialEq, Eq, Debug)]
 pub struct Column {
     pub sizing: Sizing,
     pub least: u16,
@@ -34,7 +36,8 @@ pub struct Column {
 }
 
 /// A table: its first `count` columns are used. `begun` rows were begun, and `reached` were begun or reached by a cell.
-#[derive(Clone, Copy)]
+// The columns stand in an array with their number beside, since there is no heap and a table keeps its own.
+#[derive(Clone, Copy, PartialEq, Eq, Debug)]
 pub struct Table {
     pub columns: [Column; COLUMNS],
     pub count: u8,
@@ -46,14 +49,14 @@ pub struct Table {
 }
 
 /// What a cell holds: the content of that number, or the table of that number.
-#[derive(Clone, Copy)]
+#[derive(Clone, Copy, PartialEq, Eq, Debug)]
 pub enum Holds {
     Content(u16),
     Inner(usize),
 }
 
 /// A place on the page.
-#[derive(Clone, Copy)]
+#[derive(Clone, Copy, PartialEq, Eq, Debug)]
 pub struct Rect {
     pub left: u16,
     pub top: u16,
@@ -62,7 +65,7 @@ pub struct Rect {
 }
 
 /// A cell: it takes `across` columns from `column` on in `down` rows from `row` on.
-#[derive(Clone, Copy)]
+#[derive(Clone, Copy, PartialEq, Eq, Debug)]
 pub struct Cell {
     pub table: usize,
     pub row: u8,
@@ -71,6 +74,19 @@ pub struct Cell {
     pub down: u8,
     pub holds: Holds,
     pub rect: Rect,
+}
+
+impl From<u16> for Sizing {
+    ghost from_gives = { λ width sizing. sizing ≡ sizing_of width };
+
+    /// Fixed at the width, or free at 0.
+    fn from(width: u16) -> Sizing {
+        if width == 0 {
+            Sizing::Free
+        } else {
+            Sizing::Fixed(width)
+        }
+    }
 }
 
 impl Rect {

@@ -1,11 +1,15 @@
 // Which columns of a table are taken in the rows that are still open.
-ghost use Rattle.std.specs.Prelude.{◌≡◌, ◌+◌, ◌≤◌, MatchOption};
-ghost use Rattle.plan.specs.Taken.{lowest, clear, spot, none_taken, open_at, taken_to};
+ghost use Rattle.std.specs.Prelude.{◌≡◌, ◌+◌, ◌≤◌, nat_le};
+ghost use Rattle.std.specs.List.{list_all, position};
+ghost use Rattle.plan.specs.Taken.{spot, none_taken, open_at, taken_to};
+
+use crate::record::COLUMNS;
+use crate::span::Span;
 
 /// For each column the first row from which on no cell placed so far takes it.
-#[derive(Clone, Copy)]
+#[derive(Clone, Copy, PartialEq, Eq, Debug)]
 pub struct Taken {
-    pub(crate) until: [u8; 32],
+    pub(crate) until: [u8; COLUMNS],
 }
 
 impl Taken {
@@ -13,58 +17,41 @@ impl Taken {
     pub(crate) fn new() -> Taken
         ensures { result ≡ none_taken }
     {
-        Taken { until: [0; 32] }
+        Taken {
+            until: [0; COLUMNS],
+        }
     }
 
-    // The lowest of the first n columns that is free in the row, or n.
-    fn lowest(&self, row: u8, n: u8) -> u8
-        requires { n ≤ 32 }
-        ensures value { result ≡ lowest (open_at self.now row) 0 n }
-        ensures within { result ≤ n }
+    /// The column at which a span goes into the row, if it fits there: the lowest that is free.
+    pub(crate) fn spot(&self, row: u8, count: u8, span: Span) -> Option<u8>
+        requires { count ≤ 32 }
+        ensures { result ≡ spot (open_at self.now row) count span.across }
     {
-        for j in 0..n {
-            if self.until[j as usize] <= row {
-                return j;
-            }
-        }
-        n
+        let columns = &self.until[..count as usize];
+        let j = first_open(columns, row)?;
+        let under = columns.get(j..j + span.across as usize)?;
+        are_open(under, row).then_some(j as u8)
     }
 
-    // Whether the columns from j to end are free in the row.
-    fn is_clear(&self, row: u8, j: u8, across: u8) -> bool
-        requires { j + across ≤ 32 }
-        ensures { result ≡ clear (open_at self.now row) j across }
+    /// Takes the columns of a span from j on, up to the row `until`.
+    pub(crate) fn take(&mut self, j: u8, span: Span, until: u8)
+        requires { j + span.across ≤ 32 }
+        ensures { self.new ≡ taken_to self.old j span.across until }
     {
-        for k in j..j + across {
-            if self.until[k as usize] > row {
-                return false;
-            }
-        }
-        true
+        self.until[j as usize..(j + span.across) as usize].fill(until);
     }
+}
 
-    /// The column at which a span goes into the row, if it fits there.
-    pub(crate) fn spot(&self, row: u8, count: u8, across: u8) -> Option<u8>
-        requires { (count ≤ 32) × (across ≤ 32) }
-        ensures { result ≡ spot (open_at self.now row) count across }
-    {
-        let j = self.lowest(row, count);
-        if j + across > count {
-            return None;
-        }
-        if !self.is_clear(row, j, across) {
-            return None;
-        }
-        Some(j)
-    }
+// The first of the columns that is open in the row.
+fn first_open(columns: &[u8], row: u8) -> Option<usize>
+    ensures { result ≡ position (λ until. nat_le until row) columns.now }
+{
+    columns.iter().position(|until| *until <= row)
+}
 
-    /// Takes the columns from j on up to the row `until`.
-    pub(crate) fn take(&mut self, j: u8, across: u8, until: u8)
-        requires { j + across ≤ 32 }
-        ensures { self.new ≡ taken_to self.old j across until }
-    {
-        for k in j..j + across {
-            self.until[k as usize] = until;
-        }
-    }
+// Whether all of the columns are open in the row.
+fn are_open(columns: &[u8], row: u8) -> bool
+    ensures { result ≡ list_all (λ until. nat_le until row) columns.now }
+{
+    columns.iter().all(|until| *until <= row)
 }

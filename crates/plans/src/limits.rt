@@ -7,8 +7,8 @@ use crate::steps::*;
 use engine::Sheet;
 use plan::Holds::*;
 use plan::{Cell, Table};
+use std::array;
 use std::process::Abort;
-use std::test::Fail;
 
 // Call k of those that fill 33 rows of 32 columns with contents, one in each place, where only so many cells find room. The last call
 // nests a table, in a row that is then still empty.
@@ -33,25 +33,22 @@ fn placing(i: usize, most: usize) -> (Step, Answer) {
 }
 
 fn fillings(most: usize) -> [(Step, Answer); 1091] {
-    let mut cases = [(Row(0), Done); 1091];
-    for k in 0..1091 {
-        cases[k] = filling(k, most);
-    }
-    cases
+    array::from_fn(|k| filling(k, most))
 }
 
 fn filled() -> [CellSeen; 1024] {
-    let mut cells = [(0, 0, 0, 1, 1, Content(0)); 1024];
-    for i in 0..1024 {
-        cells[i].1 = (i / 32) as u8;
-        cells[i].2 = (i % 32) as u8;
-        cells[i].5 = Content((i % 1000) as u16);
-    }
-    cells
+    array::from_fn(|i| (
+        0,
+        (i / 32) as u8,
+        (i % 32) as u8,
+        1,
+        1,
+        Content((i % 1000) as u16),
+    ))
 }
 
 // With room for so many cells, so many are placed: at most 1,024.
-fn check_filling(rt: &impl Abort, room: usize, most: usize) -> Result<(), Fail> {
+fn check_filling(rt: &impl Abort, room: usize, most: usize) {
     assert!(rt; most <= 1024);
     check_run(
         rt,
@@ -60,11 +57,11 @@ fn check_filling(rt: &impl Abort, room: usize, most: usize) -> Result<(), Fail> 
         &[(32, 0, 33, 33)],
         &filled()[0..most],
         &[],
-    )
+    );
 }
 
 #[test]
-fn rooms_for_cells(rt: HostRuntime) -> Result<(), Fail> {
+fn rooms_for_cells(rt: HostRuntime) {
     for (room, most) in [
         (0, 0),
         (1, 1),
@@ -77,9 +74,8 @@ fn rooms_for_cells(rt: HostRuntime) -> Result<(), Fail> {
         (1025, 1024),
         (1030, 1024),
     ] {
-        check_filling(&rt, room, most)?;
+        check_filling(&rt, room, most);
     }
-    Ok(())
 }
 
 fn columns(t: usize) -> u8 {
@@ -114,31 +110,19 @@ fn nesting(k: usize, most: usize) -> (Step, Answer) {
 }
 
 fn nestings(most: usize) -> [(Step, Answer); 135] {
-    let mut cases = [(Row(0), Done); 135];
-    for k in 0..135 {
-        cases[k] = nesting(k, most);
-    }
-    cases
+    array::from_fn(|k| nesting(k, most))
 }
 
 fn nested_tables() -> [TableSeen; 64] {
-    let mut tables = [(0, 0, 1, 1); 64];
-    for t in 0..64 {
-        tables[t] = (columns(t), spacing(t), 1, 1);
-    }
-    tables
+    array::from_fn(|t| (columns(t), spacing(t), 1, 1))
 }
 
 fn nested_cells() -> [CellSeen; 64] {
-    let mut cells = [(0, 0, 0, 1, 1, Content(0)); 64];
-    for t in 0..64 {
-        cells[t] = (t, 0, 0, 1, 1, Inner(t + 1));
-    }
-    cells
+    array::from_fn(|t| (t, 0, 0, 1, 1, Inner(t + 1)))
 }
 
 // With room for so many tables, so many are nested in one another: at most 64.
-fn check_nesting(rt: &impl Abort, room: usize, most: usize) -> Result<(), Fail> {
+fn check_nesting(rt: &impl Abort, room: usize, most: usize) {
     assert!(rt; 1 <= most && most <= 64);
     check_run(
         rt,
@@ -147,11 +131,11 @@ fn check_nesting(rt: &impl Abort, room: usize, most: usize) -> Result<(), Fail> 
         &nested_tables()[0..most],
         &nested_cells()[0..most - 1],
         &[],
-    )
+    );
 }
 
 #[test]
-fn rooms_for_tables(rt: HostRuntime) -> Result<(), Fail> {
+fn rooms_for_tables(rt: HostRuntime) {
     for (room, most) in [
         (1, 1),
         (2, 2),
@@ -161,9 +145,8 @@ fn rooms_for_tables(rt: HostRuntime) -> Result<(), Fail> {
         (65, 64),
         (66, 64),
     ] {
-        check_nesting(&rt, room, most)?;
+        check_nesting(&rt, room, most);
     }
-    Ok(())
 }
 
 // Call k of those that nest tables side by side in two rows of 32 columns, and then place a content.
@@ -179,27 +162,22 @@ fn lining_up(k: usize) -> (Step, Answer) {
 }
 
 fn all_lining_up() -> [(Step, Answer); 68] {
-    let mut cases = [(Row(0), Done); 68];
-    for k in 0..68 {
-        cases[k] = lining_up(k);
-    }
-    cases
+    array::from_fn(lining_up)
 }
 
 fn lined_up() -> [CellSeen; 64] {
-    let mut cells = [(0, 1, 31, 1, 1, Content(5)); 64];
-    for i in 0..63 {
-        cells[i] = (0, (i / 32) as u8, (i % 32) as u8, 1, 1, Inner(i + 1));
-    }
-    cells
+    array::from_fn(|i| {
+        let holds = if i == 63 { Content(5) } else { Inner(i + 1) };
+        (0, (i / 32) as u8, (i % 32) as u8, 1, 1, holds)
+    })
 }
 
 // 63 tables side by side in table 0 are as many as there can be. A content still goes there.
 #[test]
-fn tables_side_by_side(rt: HostRuntime) -> Result<(), Fail> {
+fn tables_side_by_side(rt: HostRuntime) {
     let mut tables = [(1, 0, 0, 0); 64];
     tables[0] = (32, 0, 2, 2);
-    check_run(&rt, (66, 1030), &all_lining_up(), &tables, &lined_up(), &[])
+    check_run(&rt, (66, 1030), &all_lining_up(), &tables, &lined_up(), &[]);
 }
 
 // Numbers far past the last table and the last cell are those of none.
@@ -210,6 +188,6 @@ fn far_numbers(rt: HostRuntime) {
     let mut sheet = Sheet::new(&mut tables, &mut cells);
     assert_eq!(rt; carry_out(&mut sheet, Start(1, 0)), Done);
     for n in [1, 2, 64, 1024, 65536, usize::MAX] {
-        assert!(rt; see_table(&sheet, n).is_none() && see_cell(&sheet, n).is_none());
+        assert!(rt; sheet.table(n).is_none() && sheet.cell(n).is_none());
     }
 }

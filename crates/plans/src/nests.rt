@@ -3,10 +3,9 @@ use crate::sheets::*;
 use crate::steps::Answer::*;
 use crate::steps::Step::*;
 use plan::Holds::*;
-use std::test::Fail;
 
 #[test]
-fn spans_outside_their_range(rt: HostRuntime) -> Result<(), Fail> {
+fn spans_outside_their_range(rt: HostRuntime) {
     check_run(
         &rt,
         (3, 3),
@@ -30,11 +29,11 @@ fn spans_outside_their_range(rt: HostRuntime) -> Result<(), Fail> {
         &[(32, 0, 1, 64), (1, 0, 0, 0)],
         &[(0, 0, 0, 32, 64, Inner(1))],
         &[],
-    )
+    );
 }
 
 #[test]
-fn columns_and_spacing(rt: HostRuntime) -> Result<(), Fail> {
+fn columns_and_spacing(rt: HostRuntime) {
     check_run(
         &rt,
         (9, 9),
@@ -68,11 +67,11 @@ fn columns_and_spacing(rt: HostRuntime) -> Result<(), Fail> {
             (0, 0, 3, 1, 1, Inner(4)),
         ],
         &[],
-    )
+    );
 }
 
 #[test]
-fn no_such_table(rt: HostRuntime) -> Result<(), Fail> {
+fn no_such_table(rt: HostRuntime) {
     check_run(
         &rt,
         (9, 9),
@@ -93,11 +92,11 @@ fn no_such_table(rt: HostRuntime) -> Result<(), Fail> {
         &[(2, 0, 1, 1), (3, 1, 1, 1), (1, 0, 0, 0)],
         &[(0, 0, 0, 1, 1, Inner(1)), (1, 0, 0, 1, 1, Inner(2))],
         &[],
-    )
+    );
 }
 
 #[test]
-fn before_the_first_row(rt: HostRuntime) -> Result<(), Fail> {
+fn before_the_first_row(rt: HostRuntime) {
     check_run(
         &rt,
         (3, 3),
@@ -118,12 +117,12 @@ fn before_the_first_row(rt: HostRuntime) -> Result<(), Fail> {
         &[(2, 0, 2, 2), (3, 0, 1, 1), (7, 2, 0, 0)],
         &[(0, 0, 0, 1, 1, Inner(1)), (1, 0, 0, 3, 1, Inner(2))],
         &[],
-    )
+    );
 }
 
 // In row 1 the second column is taken from above, in row 2 the first, second and fourth.
 #[test]
-fn around_cells_from_above(rt: HostRuntime) -> Result<(), Fail> {
+fn around_cells_from_above(rt: HostRuntime) {
     check_run(
         &rt,
         (8, 9),
@@ -165,11 +164,11 @@ fn around_cells_from_above(rt: HostRuntime) -> Result<(), Fail> {
             (0, 2, 2, 1, 1, Inner(6)),
         ],
         &[],
-    )
+    );
 }
 
 #[test]
-fn wider_than_the_table(rt: HostRuntime) -> Result<(), Fail> {
+fn wider_than_the_table(rt: HostRuntime) {
     check_run(
         &rt,
         (2, 2),
@@ -185,11 +184,11 @@ fn wider_than_the_table(rt: HostRuntime) -> Result<(), Fail> {
         &[(3, 0, 1, 1), (32, 0, 1, 1)],
         &[(0, 0, 0, 3, 1, Inner(1)), (1, 0, 0, 32, 1, Content(5))],
         &[],
-    )
+    );
 }
 
 #[test]
-fn past_row_63(rt: HostRuntime) -> Result<(), Fail> {
+fn past_row_63(rt: HostRuntime) {
     check_run(
         &rt,
         (5, 5),
@@ -221,11 +220,11 @@ fn past_row_63(rt: HostRuntime) -> Result<(), Fail> {
             (3, 0, 0, 1, 64, Inner(4)),
         ],
         &[],
-    )
+    );
 }
 
 #[test]
-fn a_full_list_of_cells(rt: HostRuntime) -> Result<(), Fail> {
+fn a_full_list_of_cells(rt: HostRuntime) {
     check_run(
         &rt,
         (9, 2),
@@ -242,12 +241,12 @@ fn a_full_list_of_cells(rt: HostRuntime) -> Result<(), Fail> {
         &[(4, 0, 1, 1), (1, 0, 1, 1)],
         &[(0, 0, 0, 1, 1, Inner(1)), (0, 0, 1, 1, 1, Content(5))],
         &[],
-    )
+    );
 }
 
 // What is refused takes no columns: a content still goes there.
 #[test]
-fn a_full_list_of_tables(rt: HostRuntime) -> Result<(), Fail> {
+fn a_full_list_of_tables(rt: HostRuntime) {
     check_run(
         &rt,
         (2, 9),
@@ -272,12 +271,12 @@ fn a_full_list_of_tables(rt: HostRuntime) -> Result<(), Fail> {
             (0, 0, 2, 2, 1, Content(7)),
         ],
         &[],
-    )
+    );
 }
 
 // place answers the number of its cell and nest that of its table.
 #[test]
-fn numbers_of_cells_and_tables(rt: HostRuntime) -> Result<(), Fail> {
+fn numbers_of_cells_and_tables(rt: HostRuntime) {
     check_run(
         &rt,
         (9, 9),
@@ -301,11 +300,11 @@ fn numbers_of_cells_and_tables(rt: HostRuntime) -> Result<(), Fail> {
             (0, 0, 5, 1, 1, Inner(3)),
         ],
         &[],
-    )
+    );
 }
 
 #[test]
-fn tables_in_tables(rt: HostRuntime) -> Result<(), Fail> {
+fn tables_in_tables(rt: HostRuntime) {
     check_run(
         &rt,
         (9, 9),
@@ -345,5 +344,5 @@ fn tables_in_tables(rt: HostRuntime) -> Result<(), Fail> {
             (0, 1, 0, 1, 2, Inner(6)),
         ],
         &[],
-    )
+    );
 }

@@ -3,11 +3,10 @@ use crate::sheets::*;
 use crate::steps::Answer::*;
 use crate::steps::Step::*;
 use plan::Holds::*;
-use std::test::Fail;
 
 // A start outside its range on a started sheet with a full list, and each of the later two alone with what comes after it.
 #[test]
-fn of_start(rt: HostRuntime) -> Result<(), Fail> {
+fn of_start(rt: HostRuntime) {
     check_run(
         &rt,
         (1, 0),
@@ -21,7 +20,7 @@ fn of_start(rt: HostRuntime) -> Result<(), Fail> {
         &[(2, 0, 0, 0)],
         &[],
         &[],
-    )?;
+    );
     check_run(
         &rt,
         (0, 0),
@@ -34,11 +33,11 @@ fn of_start(rt: HostRuntime) -> Result<(), Fail> {
         &[],
         &[],
         &[],
-    )
+    );
 }
 
 #[test]
-fn of_row(rt: HostRuntime) -> Result<(), Fail> {
+fn of_row(rt: HostRuntime) {
     check_run(
         &rt,
         (1, 0),
@@ -51,12 +50,12 @@ fn of_row(rt: HostRuntime) -> Result<(), Fail> {
         &[(2, 0, 64, 64)],
         &[],
         &[],
-    )
+    );
 }
 
 // There is no room for cells, so that what is refused for nothing else is refused with 7.
 #[test]
-fn of_place_in_a_full_list(rt: HostRuntime) -> Result<(), Fail> {
+fn of_place_in_a_full_list(rt: HostRuntime) {
     check_run(
         &rt,
         (1, 0),
@@ -84,12 +83,12 @@ fn of_place_in_a_full_list(rt: HostRuntime) -> Result<(), Fail> {
         &[(3, 0, 64, 64)],
         &[],
         &[],
-    )
+    );
 }
 
 // The same with room for cells: in row 62 a cell reaches down, so that in row 63 there is no free column, or only one.
 #[test]
-fn of_place_with_room(rt: HostRuntime) -> Result<(), Fail> {
+fn of_place_with_room(rt: HostRuntime) {
     check_run(
         &rt,
         (1, 9),
@@ -120,12 +119,12 @@ fn of_place_with_room(rt: HostRuntime) -> Result<(), Fail> {
             (0, 63, 2, 1, 1, Content(8)),
         ],
         &[],
-    )
+    );
 }
 
 // There is no room for cells or tables, so that what is refused for nothing else is refused with 7.
 #[test]
-fn of_nest_in_full_lists(rt: HostRuntime) -> Result<(), Fail> {
+fn of_nest_in_full_lists(rt: HostRuntime) {
     check_run(
         &rt,
         (1, 0),
@@ -155,12 +154,12 @@ fn of_nest_in_full_lists(rt: HostRuntime) -> Result<(), Fail> {
         &[(3, 0, 64, 64)],
         &[],
         &[],
-    )
+    );
 }
 
 // There is room for a cell but not for a table, and then for a table but not for a cell.
 #[test]
-fn of_nest_in_one_full_list(rt: HostRuntime) -> Result<(), Fail> {
+fn of_nest_in_one_full_list(rt: HostRuntime) {
     check_run(
         &rt,
         (1, 9),
@@ -177,7 +176,7 @@ fn of_nest_in_one_full_list(rt: HostRuntime) -> Result<(), Fail> {
         &[(3, 0, 64, 64)],
         &[],
         &[],
-    )?;
+    );
     check_run(
         &rt,
         (9, 0),
@@ -194,11 +193,11 @@ fn of_nest_in_one_full_list(rt: HostRuntime) -> Result<(), Fail> {
         &[(3, 0, 64, 64)],
         &[],
         &[],
-    )
+    );
 }
 
 #[test]
-fn of_width(rt: HostRuntime) -> Result<(), Fail> {
+fn of_width(rt: HostRuntime) {
     check_run(
         &rt,
         (1, 0),
@@ -216,5 +215,5 @@ fn of_width(rt: HostRuntime) -> Result<(), Fail> {
         &[(3, 0, 0, 0)],
         &[],
         &[],
-    )
+    );
 }

@@ -3,10 +3,9 @@ use crate::sheets::*;
 use crate::steps::Answer::*;
 use crate::steps::Step::*;
 use plan::Holds::*;
-use std::test::Fail;
 
 #[test]
-fn spans_outside_their_range(rt: HostRuntime) -> Result<(), Fail> {
+fn spans_outside_their_range(rt: HostRuntime) {
     check_run(
         &rt,
         (1, 3),
@@ -30,11 +29,11 @@ fn spans_outside_their_range(rt: HostRuntime) -> Result<(), Fail> {
         &[(32, 0, 1, 64)],
         &[(0, 0, 0, 32, 64, Content(5))],
         &[],
-    )
+    );
 }
 
 #[test]
-fn least_and_greatest_spans(rt: HostRuntime) -> Result<(), Fail> {
+fn least_and_greatest_spans(rt: HostRuntime) {
     check_run(
         &rt,
         (1, 9),
@@ -60,12 +59,12 @@ fn least_and_greatest_spans(rt: HostRuntime) -> Result<(), Fail> {
             (0, 1, 2, 30, 1, Content(7)),
         ],
         &[],
-    )
+    );
 }
 
 // Any number does for a content, and one content can be placed twice.
 #[test]
-fn numbers_of_contents(rt: HostRuntime) -> Result<(), Fail> {
+fn numbers_of_contents(rt: HostRuntime) {
     check_run(
         &rt,
         (1, 9),
@@ -87,11 +86,11 @@ fn numbers_of_contents(rt: HostRuntime) -> Result<(), Fail> {
             (0, 0, 4, 1, 1, Content(65535)),
         ],
         &[],
-    )
+    );
 }
 
 #[test]
-fn no_such_table(rt: HostRuntime) -> Result<(), Fail> {
+fn no_such_table(rt: HostRuntime) {
     check_run(
         &rt,
         (9, 9),
@@ -111,11 +110,11 @@ fn no_such_table(rt: HostRuntime) -> Result<(), Fail> {
         &[(2, 0, 1, 1), (1, 0, 1, 1)],
         &[(0, 0, 0, 1, 1, Inner(1)), (1, 0, 0, 1, 1, Content(5))],
         &[],
-    )
+    );
 }
 
 #[test]
-fn before_the_first_row(rt: HostRuntime) -> Result<(), Fail> {
+fn before_the_first_row(rt: HostRuntime) {
     check_run(
         &rt,
         (2, 3),
@@ -140,12 +139,12 @@ fn before_the_first_row(rt: HostRuntime) -> Result<(), Fail> {
             (1, 0, 0, 1, 1, Content(7)),
         ],
         &[],
-    )
+    );
 }
 
 // Cells fill a row from the left, and the next row is free again.
 #[test]
-fn side_by_side(rt: HostRuntime) -> Result<(), Fail> {
+fn side_by_side(rt: HostRuntime) {
     check_run(
         &rt,
         (1, 9),
@@ -171,12 +170,12 @@ fn side_by_side(rt: HostRuntime) -> Result<(), Fail> {
             (0, 1, 0, 6, 1, Content(7)),
         ],
         &[],
-    )
+    );
 }
 
 // In row 1 the second and third column are taken from above, in row 2 the second and fourth, and in row 3 the third.
 #[test]
-fn around_cells_from_above(rt: HostRuntime) -> Result<(), Fail> {
+fn around_cells_from_above(rt: HostRuntime) {
     check_run(
         &rt,
         (1, 10),
@@ -215,12 +214,12 @@ fn around_cells_from_above(rt: HostRuntime) -> Result<(), Fail> {
             (0, 3, 3, 1, 1, Content(23)),
         ],
         &[],
-    )
+    );
 }
 
 // Only the lowest free column is tried, though there would be room further right.
 #[test]
-fn room_further_right(rt: HostRuntime) -> Result<(), Fail> {
+fn room_further_right(rt: HostRuntime) {
     check_run(
         &rt,
         (1, 9),
@@ -246,11 +245,11 @@ fn room_further_right(rt: HostRuntime) -> Result<(), Fail> {
             (0, 1, 2, 3, 1, Content(4)),
         ],
         &[],
-    )
+    );
 }
 
 #[test]
-fn wider_than_what_is_left(rt: HostRuntime) -> Result<(), Fail> {
+fn wider_than_what_is_left(rt: HostRuntime) {
     check_run(
         &rt,
         (1, 9),
@@ -274,11 +273,11 @@ fn wider_than_what_is_left(rt: HostRuntime) -> Result<(), Fail> {
             (0, 2, 0, 4, 1, Content(3)),
         ],
         &[],
-    )
+    );
 }
 
 #[test]
-fn past_row_63(rt: HostRuntime) -> Result<(), Fail> {
+fn past_row_63(rt: HostRuntime) {
     check_run(
         &rt,
         (1, 9),
@@ -307,11 +306,11 @@ fn past_row_63(rt: HostRuntime) -> Result<(), Fail> {
             (0, 63, 3, 1, 1, Content(4)),
         ],
         &[],
-    )
+    );
 }
 
 #[test]
-fn a_full_list(rt: HostRuntime) -> Result<(), Fail> {
+fn a_full_list(rt: HostRuntime) {
     check_run(
         &rt,
         (1, 2),
@@ -328,12 +327,12 @@ fn a_full_list(rt: HostRuntime) -> Result<(), Fail> {
         &[(3, 0, 2, 2)],
         &[(0, 0, 0, 1, 1, Content(1)), (0, 0, 1, 1, 1, Content(2))],
         &[],
-    )
+    );
 }
 
 // Rows left behind take no more cells.
 #[test]
-fn the_row_begun_last(rt: HostRuntime) -> Result<(), Fail> {
+fn the_row_begun_last(rt: HostRuntime) {
     check_run(
         &rt,
         (1, 9),
@@ -353,12 +352,12 @@ fn the_row_begun_last(rt: HostRuntime) -> Result<(), Fail> {
             (0, 3, 1, 1, 1, Content(3)),
         ],
         &[],
-    )
+    );
 }
 
 // Cells are counted over all tables, and take columns only of their own.
 #[test]
-fn cells_of_two_tables(rt: HostRuntime) -> Result<(), Fail> {
+fn cells_of_two_tables(rt: HostRuntime) {
     check_run(
         &rt,
         (2, 9),
@@ -388,5 +387,5 @@ fn cells_of_two_tables(rt: HostRuntime) -> Result<(), Fail> {
             (1, 1, 1, 1, 1, Content(6)),
         ],
         &[],
-    )
+    );
 }

@@ -3,10 +3,9 @@ use crate::sheets::*;
 use crate::steps::Answer::*;
 use crate::steps::Step::*;
 use plan::Holds::*;
-use std::test::Fail;
 
 #[test]
-fn six_columns(rt: HostRuntime) -> Result<(), Fail> {
+fn six_columns(rt: HostRuntime) {
     check_run(
         &rt,
         (64, 1024),
@@ -125,11 +124,11 @@ fn six_columns(rt: HostRuntime) -> Result<(), Fail> {
             (1, 5, 0, 1, 1, Inner(5)),
         ],
         &[(1, 0, 999)],
-    )
+    );
 }
 
 #[test]
-fn thirty_two_columns(rt: HostRuntime) -> Result<(), Fail> {
+fn thirty_two_columns(rt: HostRuntime) {
     check_run(
         &rt,
         (64, 1024),
@@ -268,11 +267,11 @@ fn thirty_two_columns(rt: HostRuntime) -> Result<(), Fail> {
             (1, 9, 0, 1, 3, Content(1)),
         ],
         &[(0, 1, 999), (0, 3, 9), (1, 1, 9), (2, 1, 9)],
-    )
+    );
 }
 
 #[test]
-fn many_full_rows(rt: HostRuntime) -> Result<(), Fail> {
+fn many_full_rows(rt: HostRuntime) {
     check_run(
         &rt,
         (64, 1024),
@@ -421,11 +420,11 @@ fn many_full_rows(rt: HostRuntime) -> Result<(), Fail> {
             (3, 0, 1000),
             (3, 1, 999),
         ],
-    )
+    );
 }
 
 #[test]
-fn many_widths(rt: HostRuntime) -> Result<(), Fail> {
+fn many_widths(rt: HostRuntime) {
     check_run(
         &rt,
         (64, 1024),
@@ -567,11 +566,11 @@ fn many_widths(rt: HostRuntime) -> Result<(), Fail> {
             (2, 2, 999),
             (3, 1, 3),
         ],
-    )
+    );
 }
 
 #[test]
-fn few_accepted(rt: HostRuntime) -> Result<(), Fail> {
+fn few_accepted(rt: HostRuntime) {
     check_run(
         &rt,
         (64, 1024),
@@ -634,11 +633,11 @@ fn few_accepted(rt: HostRuntime) -> Result<(), Fail> {
             (1, 1, 0, 1, 40, Content(3)),
         ],
         &[(0, 0, 1000)],
-    )
+    );
 }
 
 #[test]
-fn one_column(rt: HostRuntime) -> Result<(), Fail> {
+fn one_column(rt: HostRuntime) {
     check_run(
         &rt,
         (64, 1024),
@@ -762,11 +761,11 @@ fn one_column(rt: HostRuntime) -> Result<(), Fail> {
             (4, 2, 1, 1, 2, Content(5)),
         ],
         &[],
-    )
+    );
 }
 
 #[test]
-fn spacing_8(rt: HostRuntime) -> Result<(), Fail> {
+fn spacing_8(rt: HostRuntime) {
     check_run(
         &rt,
         (64, 1024),
@@ -890,5 +889,5 @@ fn spacing_8(rt: HostRuntime) -> Result<(), Fail> {
             (1, 6, 2, 1, 1, Content(0)),
         ],
         &[(0, 1, 9), (0, 3, 999), (0, 7, 9), (1, 0, 1000)],
-    )
+    );
 }

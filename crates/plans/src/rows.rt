@@ -3,10 +3,9 @@ use crate::sheets::*;
 use crate::steps::Answer::*;
 use crate::steps::Step::*;
 use plan::Holds::*;
-use std::test::Fail;
 
 #[test]
-fn no_such_table(rt: HostRuntime) -> Result<(), Fail> {
+fn no_such_table(rt: HostRuntime) {
     check_run(
         &rt,
         (9, 9),
@@ -27,17 +26,17 @@ fn no_such_table(rt: HostRuntime) -> Result<(), Fail> {
         &[(2, 0, 1, 1), (1, 0, 1, 1)],
         &[(0, 0, 0, 1, 1, Inner(1))],
         &[],
-    )
+    );
 }
 
 // 64 rows are begun one after the other, and then none more.
 #[test]
-fn as_many_as_64(rt: HostRuntime) -> Result<(), Fail> {
+fn as_many_as_64(rt: HostRuntime) {
     let mut cases = [(Row(0), Done); 67];
     cases[0] = (Start(5, 1), Done);
     cases[65] = (Row(0), Refused(6));
     cases[66] = (Row(0), Refused(6));
-    check_run(&rt, (1, 1), &cases, &[(5, 1, 64, 64)], &[], &[])?;
+    check_run(&rt, (1, 1), &cases, &[(5, 1, 64, 64)], &[], &[]);
     for n in 0..64 {
         check_run(
             &rt,
@@ -46,14 +45,13 @@ fn as_many_as_64(rt: HostRuntime) -> Result<(), Fail> {
             &[(5, 1, n, n)],
             &[],
             &[],
-        )?;
+        );
     }
-    Ok(())
 }
 
 // The rows that a cell reaches count once they are begun, and not twice.
 #[test]
-fn rows_reached_by_a_cell(rt: HostRuntime) -> Result<(), Fail> {
+fn rows_reached_by_a_cell(rt: HostRuntime) {
     check_run(
         &rt,
         (1, 2),
@@ -66,7 +64,7 @@ fn rows_reached_by_a_cell(rt: HostRuntime) -> Result<(), Fail> {
         &[(2, 0, 2, 3)],
         &[(0, 0, 0, 1, 3, Content(0))],
         &[],
-    )?;
+    );
     check_run(
         &rt,
         (1, 2),
@@ -80,11 +78,11 @@ fn rows_reached_by_a_cell(rt: HostRuntime) -> Result<(), Fail> {
         &[(2, 0, 4, 4)],
         &[(0, 0, 0, 1, 3, Content(0)), (0, 0, 1, 1, 2, Content(1))],
         &[],
-    )
+    );
 }
 
 #[test]
-fn all_rows_reached_by_a_cell(rt: HostRuntime) -> Result<(), Fail> {
+fn all_rows_reached_by_a_cell(rt: HostRuntime) {
     check_run(
         &rt,
         (1, 2),
@@ -99,12 +97,12 @@ fn all_rows_reached_by_a_cell(rt: HostRuntime) -> Result<(), Fail> {
         &[(1, 0, 64, 64)],
         &[(0, 0, 0, 1, 64, Content(0))],
         &[],
-    )
+    );
 }
 
 // Each table has rows of its own, whatever those of the other are.
 #[test]
-fn rows_of_two_tables(rt: HostRuntime) -> Result<(), Fail> {
+fn rows_of_two_tables(rt: HostRuntime) {
     check_run(
         &rt,
         (2, 3),
@@ -127,5 +125,5 @@ fn rows_of_two_tables(rt: HostRuntime) -> Result<(), Fail> {
             (1, 63, 0, 3, 1, Content(9)),
         ],
         &[],
-    )
+    );
 }

@@ -4,7 +4,6 @@ use crate::steps::*;
 use engine::Sheet;
 use plan::{Cell, Table};
 use std::process::Abort;
-use std::test::Fail;
 
 // Room for more tables and cells than a sheet can have.
 pub(crate) const TABLE_ROOM: usize = 66;
@@ -31,14 +30,13 @@ pub(crate) fn check_run(
     tables: &[TableSeen],
     cells: &[CellSeen],
     fixed: &[Fixed],
-) -> Result<(), Fail> {
+) {
     let mut table_places = [Table::new(9, 9); TABLE_ROOM];
     let mut cell_places = [Cell::blank(); CELL_ROOM];
     let mut sheet = sheet_over(&mut table_places, &mut cell_places, rooms);
-    check_cases(rt, &mut sheet, rooms, cases)?;
+    check_cases(rt, &mut sheet, rooms, cases);
     check_tables(rt, &sheet, tables, fixed);
     check_cells(rt, &sheet, cells);
-    Ok(())
 }
 
 // The sheet answers the calls so. Another sheet is spared the calls that are refused, and both tell the same throughout.
@@ -47,14 +45,13 @@ fn check_cases(
     sheet: &mut Sheet,
     rooms: (usize, usize),
     cases: &[(Step, Answer)],
-) -> Result<(), Fail> {
+) {
     let mut table_places = [Table::new(7, 7); TABLE_ROOM];
     let mut cell_places = [Cell::blank(); CELL_ROOM];
     let mut other = sheet_over(&mut table_places, &mut cell_places, rooms);
     for (i, (step, answer)) in cases.iter().enumerate() {
-        check_case(rt, sheet, &mut other, i, *step, *answer)?;
+        check_case(rt, sheet, &mut other, i, *step, *answer);
     }
-    Ok(())
 }
 
 fn check_case(
@@ -64,35 +61,20 @@ fn check_case(
     i: usize,
     step: Step,
     answer: Answer,
-) -> Result<(), Fail> {
+) {
     assert_eq!(rt; carry_out(sheet, step), answer, "call {i}");
-    if !is_refusal(answer) {
+    if !answer.is_refusal() {
         assert_eq!(rt; carry_out(other, step), answer, "call {i}");
     }
     assert!(rt; !sheet.is_laid(), "call {i}");
-    assert!(rt;
-        has_same_tables(sheet, other) && has_same_cells(sheet, other),
-        "call {i}"
-    );
-    Ok(())
+    assert!(rt; tell_the_same(sheet, other), "call {i}");
 }
 
-fn has_same_tables(sheet: &Sheet, other: &Sheet) -> bool {
-    for t in 0..sheet.table_count() {
-        if see_table(sheet, t) != see_table(other, t) {
-            return false;
-        }
-    }
-    see_counts(sheet) == see_counts(other)
-}
-
-fn has_same_cells(sheet: &Sheet, other: &Sheet) -> bool {
-    for i in 0..sheet.cell_count() {
-        if see_cell(sheet, i) != see_cell(other, i) {
-            return false;
-        }
-    }
-    true
+fn tell_the_same(sheet: &Sheet, other: &Sheet) -> bool {
+    sheet.table_count() == other.table_count()
+        && sheet.cell_count() == other.cell_count()
+        && (0..sheet.table_count()).all(|t| sheet.table(t) == other.table(t))
+        && (0..sheet.cell_count()).all(|i| sheet.cell(i) == other.cell(i))
 }
 
 // The sheet has these tables and no others.
@@ -100,10 +82,9 @@ fn check_tables(rt: &impl Abort, sheet: &Sheet, tables: &[TableSeen], fixed: &[F
     assert_eq!(rt; sheet.table_count(), tables.len());
     for t in 0..TABLE_ROOM {
         assert_eq!(rt;
-            see_table(sheet, t),
+            sheet.table(t).map(parts_of),
             expected_table(tables, fixed, t),
-            "{}",
-            t
+            "{t}"
         );
     }
 }
@@ -112,6 +93,6 @@ fn check_tables(rt: &impl Abort, sheet: &Sheet, tables: &[TableSeen], fixed: &[F
 fn check_cells(rt: &impl Abort, sheet: &Sheet, cells: &[CellSeen]) {
     assert_eq!(rt; sheet.cell_count(), cells.len());
     for i in 0..CELL_ROOM {
-        assert_eq!(rt; see_cell(sheet, i), expected_cell(cells, i), "{}", i);
+        assert_eq!(rt; sheet.cell(i), expected_cell(cells, i), "{i}");
     }
 }

@@ -5,17 +5,15 @@ use crate::steps::Answer::*;
 use crate::steps::Step::*;
 use plan::Holds::*;
 use std::process::Abort;
-use std::test::Fail;
 
 // Each start of that many columns and that spacing, on a sheet of its own, is answered so.
-fn check_starts(rt: &impl Abort, cases: &[(u8, u8, Answer)]) -> Result<(), Fail> {
+fn check_starts(rt: &impl Abort, cases: &[(u8, u8, Answer)]) {
     for (count, spacing, answer) in cases {
-        check_start(rt, *count, *spacing, *answer)?;
+        check_start(rt, *count, *spacing, *answer);
     }
-    Ok(())
 }
 
-fn check_start(rt: &impl Abort, count: u8, spacing: u8, answer: Answer) -> Result<(), Fail> {
+fn check_start(rt: &impl Abort, count: u8, spacing: u8, answer: Answer) {
     let cases = [(Start(count, spacing), answer)];
     match answer {
         Done => check_run(rt, (1, 1), &cases, &[(count, spacing, 0, 0)], &[], &[]),
@@ -24,7 +22,7 @@ fn check_start(rt: &impl Abort, count: u8, spacing: u8, answer: Answer) -> Resul
 }
 
 #[test]
-fn columns_and_spacing(rt: HostRuntime) -> Result<(), Fail> {
+fn columns_and_spacing(rt: HostRuntime) {
     check_starts(
         &rt,
         &[
@@ -49,12 +47,12 @@ fn columns_and_spacing(rt: HostRuntime) -> Result<(), Fail> {
             (255, 9, Refused(1)),
             (255, 255, Refused(1)),
         ],
-    )
+    );
 }
 
 // Refused starts do not start a sheet.
 #[test]
-fn after_refusals(rt: HostRuntime) -> Result<(), Fail> {
+fn after_refusals(rt: HostRuntime) {
     check_run(
         &rt,
         (1, 1),
@@ -70,11 +68,11 @@ fn after_refusals(rt: HostRuntime) -> Result<(), Fail> {
         &[(4, 8, 1, 1)],
         &[(0, 0, 0, 4, 1, Content(5))],
         &[],
-    )
+    );
 }
 
 #[test]
-fn twice(rt: HostRuntime) -> Result<(), Fail> {
+fn twice(rt: HostRuntime) {
     check_run(
         &rt,
         (3, 1),
@@ -92,12 +90,12 @@ fn twice(rt: HostRuntime) -> Result<(), Fail> {
         &[(3, 2, 2, 2)],
         &[(0, 0, 0, 1, 1, Content(5))],
         &[],
-    )
+    );
 }
 
 // With no room for a table the sheet stays empty, and no table is there for any call.
 #[test]
-fn no_room_for_a_table(rt: HostRuntime) -> Result<(), Fail> {
+fn no_room_for_a_table(rt: HostRuntime) {
     check_run(
         &rt,
         (0, 3),
@@ -113,18 +111,18 @@ fn no_room_for_a_table(rt: HostRuntime) -> Result<(), Fail> {
         &[],
         &[],
         &[],
-    )
+    );
 }
 
 #[test]
-fn no_calls(rt: HostRuntime) -> Result<(), Fail> {
-    check_run(&rt, (0, 0), &[], &[], &[], &[])?;
-    check_run(&rt, (66, 1030), &[], &[], &[], &[])
+fn no_calls(rt: HostRuntime) {
+    check_run(&rt, (0, 0), &[], &[], &[], &[]);
+    check_run(&rt, (66, 1030), &[], &[], &[], &[]);
 }
 
 // A table needs no room for cells.
 #[test]
-fn no_room_for_a_cell(rt: HostRuntime) -> Result<(), Fail> {
+fn no_room_for_a_cell(rt: HostRuntime) {
     check_run(
         &rt,
         (1, 0),
@@ -138,5 +136,5 @@ fn no_room_for_a_cell(rt: HostRuntime) -> Result<(), Fail> {
         &[(2, 1, 1, 1)],
         &[],
         &[(0, 1, 9)],
-    )
+    );
 }

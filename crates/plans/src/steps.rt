@@ -19,7 +19,7 @@ pub(crate) enum Step {
     Width(usize, usize, u16),
 }
 
-// What a call answers. A refusal has its number, and names no place unless it is so said.
+// What a call answers. A refusal is told by its number, which is what is printed of it, and names no place unless it is so said.
 #[derive(Clone, Copy, PartialEq, Debug)]
 pub(crate) enum Answer {
     Done,
@@ -28,54 +28,57 @@ pub(crate) enum Answer {
     RefusedAt(u8, usize),
 }
 
+impl Answer {
+    pub(crate) fn is_refusal(self) -> bool {
+        matches!(self, Answer::Refused(_) | Answer::RefusedAt(_, _))
+    }
+}
+
+impl From<Fault> for Answer {
+    fn from(fault: Fault) -> Answer {
+        match fault.place {
+            0 => Answer::Refused(fault.reason.number()),
+            place => Answer::RefusedAt(fault.reason.number(), place),
+        }
+    }
+}
+
+impl From<Result<(), Fault>> for Answer {
+    fn from(answer: Result<(), Fault>) -> Answer {
+        match answer {
+            Ok(()) => Answer::Done,
+            Err(fault) => Answer::from(fault),
+        }
+    }
+}
+
+impl From<Result<usize, Fault>> for Answer {
+    fn from(answer: Result<usize, Fault>) -> Answer {
+        match answer {
+            Ok(n) => Answer::Number(n),
+            Err(fault) => Answer::from(fault),
+        }
+    }
+}
+
 // Carries out the call.
 pub(crate) fn carry_out(sheet: &mut Sheet, step: Step) -> Answer {
     match step {
-        Step::Start(count, spacing) => done(sheet.start(count, spacing)),
-        Step::Row(t) => done(sheet.row(t)),
-        Step::Rows(t, n) => rows(sheet, t, n),
-        Step::Place(t, content, across, down) => number(sheet.place(t, content, across, down)),
-        Step::Nest(t, across, down, count, spacing) => number(sheet.nest(
-            t, across, down, count, spacing,
-        )),
-        Step::Width(t, j, width) => done(sheet.width(t, j, width)),
+        Step::Start(count, spacing) => sheet.start(count, spacing).into(),
+        Step::Row(t) => sheet.row(t).into(),
+        Step::Rows(t, n) => rows(sheet, t, n).into(),
+        Step::Place(t, content, across, down) => sheet.place(t, content, across, down).into(),
+        Step::Nest(t, across, down, count, spacing) => {
+            sheet.nest(t, across, down, count, spacing).into()
+        }
+        Step::Width(t, j, width) => sheet.width(t, j, width).into(),
     }
 }
 
 // Begins rows up to the first that is refused.
-fn rows(sheet: &mut Sheet, t: usize, n: u8) -> Answer {
+fn rows(sheet: &mut Sheet, t: usize, n: u8) -> Result<(), Fault> {
     for _ in 0..n {
-        let answer = done(sheet.row(t));
-        if is_refusal(answer) {
-            return answer;
-        }
+        sheet.row(t)?;
     }
-    Answer::Done
-}
-
-fn done(answer: Result<(), Fault>) -> Answer {
-    match answer {
-        Ok(()) => Answer::Done,
-        Err(fault) => refused(fault),
-    }
-}
-
-fn number(answer: Result<usize, Fault>) -> Answer {
-    match answer {
-        Ok(n) => Answer::Number(n),
-        Err(fault) => refused(fault),
-    }
-}
-
-fn refused(fault: Fault) -> Answer {
-    if fault.place == 0 {
-        Answer::Refused(fault.reason.number())
-    } else {
-        Answer::RefusedAt(fault.reason.number(), fault.place)
-    }
-}
-
-// Whether the answer is a refusal.
-pub(crate) fn is_refusal(answer: Answer) -> bool {
-    matches!(answer, Answer::Refused(_) | Answer::RefusedAt(_, _))
+    Ok(())
 }

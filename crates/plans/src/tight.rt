@@ -3,10 +3,9 @@ use crate::sheets::*;
 use crate::steps::Answer::*;
 use crate::steps::Step::*;
 use plan::Holds::*;
-use std::test::Fail;
 
 #[test]
-fn room_for_20_cells(rt: HostRuntime) -> Result<(), Fail> {
+fn room_for_20_cells(rt: HostRuntime) {
     check_run(
         &rt,
         (64, 20),
@@ -97,11 +96,11 @@ fn room_for_20_cells(rt: HostRuntime) -> Result<(), Fail> {
             (0, 12, 0, 1, 1, Inner(3)),
         ],
         &[(0, 1, 1000)],
-    )
+    );
 }
 
 #[test]
-fn room_for_20_cells_and_more_tables(rt: HostRuntime) -> Result<(), Fail> {
+fn room_for_20_cells_and_more_tables(rt: HostRuntime) {
     check_run(
         &rt,
         (64, 20),
@@ -206,11 +205,11 @@ fn room_for_20_cells_and_more_tables(rt: HostRuntime) -> Result<(), Fail> {
             (4, 1, 0, 1, 1, Content(5)),
         ],
         &[(0, 0, 999), (1, 0, 9)],
-    )
+    );
 }
 
 #[test]
-fn room_for_6_cells(rt: HostRuntime) -> Result<(), Fail> {
+fn room_for_6_cells(rt: HostRuntime) {
     check_run(
         &rt,
         (3, 6),
@@ -320,11 +319,11 @@ fn room_for_6_cells(rt: HostRuntime) -> Result<(), Fail> {
             (0, 26, 40),
             (1, 0, 3),
         ],
-    )
+    );
 }
 
 #[test]
-fn room_for_3_tables(rt: HostRuntime) -> Result<(), Fail> {
+fn room_for_3_tables(rt: HostRuntime) {
     check_run(
         &rt,
         (3, 6),
@@ -383,11 +382,11 @@ fn room_for_3_tables(rt: HostRuntime) -> Result<(), Fail> {
             (2, 1, 0, 1, 1, Content(3)),
         ],
         &[],
-    )
+    );
 }
 
 #[test]
-fn room_for_nothing(rt: HostRuntime) -> Result<(), Fail> {
+fn room_for_nothing(rt: HostRuntime) {
     check_run(
         &rt,
         (0, 0),
@@ -418,5 +417,5 @@ fn room_for_nothing(rt: HostRuntime) -> Result<(), Fail> {
         &[],
         &[],
         &[],
-    )
+    );
 }

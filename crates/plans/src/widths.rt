@@ -3,10 +3,9 @@ use crate::sheets::*;
 use crate::steps::Answer::*;
 use crate::steps::Step::*;
 use plan::Holds::*;
-use std::test::Fail;
 
 #[test]
-fn the_range(rt: HostRuntime) -> Result<(), Fail> {
+fn the_range(rt: HostRuntime) {
     check_run(
         &rt,
         (1, 1),
@@ -23,11 +22,11 @@ fn the_range(rt: HostRuntime) -> Result<(), Fail> {
         &[(5, 0, 0, 0)],
         &[],
         &[(0, 2, 1), (0, 3, 1000), (0, 4, 999)],
-    )
+    );
 }
 
 #[test]
-fn no_such_table_or_column(rt: HostRuntime) -> Result<(), Fail> {
+fn no_such_table_or_column(rt: HostRuntime) {
     check_run(
         &rt,
         (2, 1),
@@ -49,11 +48,11 @@ fn no_such_table_or_column(rt: HostRuntime) -> Result<(), Fail> {
         &[(3, 0, 0, 0)],
         &[],
         &[(0, 2, 5)],
-    )
+    );
 }
 
 #[test]
-fn the_last_column(rt: HostRuntime) -> Result<(), Fail> {
+fn the_last_column(rt: HostRuntime) {
     check_run(
         &rt,
         (1, 1),
@@ -65,7 +64,7 @@ fn the_last_column(rt: HostRuntime) -> Result<(), Fail> {
         &[(1, 0, 0, 0)],
         &[],
         &[(0, 0, 8)],
-    )?;
+    );
     check_run(
         &rt,
         (1, 1),
@@ -78,11 +77,11 @@ fn the_last_column(rt: HostRuntime) -> Result<(), Fail> {
         &[(32, 0, 0, 0)],
         &[],
         &[(0, 31, 8), (0, 0, 9)],
-    )
+    );
 }
 
 #[test]
-fn fixed_and_freed(rt: HostRuntime) -> Result<(), Fail> {
+fn fixed_and_freed(rt: HostRuntime) {
     check_run(
         &rt,
         (1, 1),
@@ -104,7 +103,7 @@ fn fixed_and_freed(rt: HostRuntime) -> Result<(), Fail> {
         &[(6, 0, 0, 0)],
         &[],
         &[(0, 0, 10), (0, 2, 20), (0, 3, 30)],
-    )?;
+    );
     check_run(
         &rt,
         (1, 1),
@@ -118,12 +117,12 @@ fn fixed_and_freed(rt: HostRuntime) -> Result<(), Fail> {
         &[(2, 0, 0, 0)],
         &[],
         &[],
-    )
+    );
 }
 
 // Each table has columns of its own, and they stay as they are when rows begin and cells come.
 #[test]
-fn columns_of_two_tables(rt: HostRuntime) -> Result<(), Fail> {
+fn columns_of_two_tables(rt: HostRuntime) {
     check_run(
         &rt,
         (3, 9),
@@ -150,5 +149,5 @@ fn columns_of_two_tables(rt: HostRuntime) -> Result<(), Fail> {
             (0, 2, 0, 1, 1, Inner(2)),
         ],
         &[(0, 1, 50), (1, 2, 61), (1, 0, 70), (2, 0, 80)],
-    )
+    );
 }

@@ -16,7 +16,7 @@ use Rattle.plan.proofs.Spots.{spot_found}
 use Rattle.plan.specs.Cells.{by_cells}
 use Rattle.runs.specs.State.{State, empty}
 use Rattle.runs.specs.Calls.{Call, Start, Row, Place, Nest, Width, changed, added, after_of, next, run, Reached}
-use Rattle.runs.proofs.Lists.{nth_below}
+use Rattle.std.proofs.lemmas.Option.{slice_get_within}
 use Rattle.runs.proofs.Standing.{Standing, standing_none, standing_table, Kept, standing_kept, Fitting, standing_cell}
 use Rattle.runs.proofs.Nested.{Nested, nested_none, nested_first, nested_content, nested_inner}
 
@@ -153,7 +153,7 @@ module _ (s : State) (t across down : ℕ) (range : span_range across down ≡ t
         few_tables = omega (arith, room_left 64 s.tables rooms.1);
         few_cells = omega (arith, room_left 1024 s.cells rooms.0, length_push s.cells.items c);
         standing = standing_table (set s.tables.items t d) (s.cells.items ++ c ∷ []) n q r.0 r.1 r.2 (standing_cell s.tables.items s.cells.items t b e j across down (Inner m) fitting g.standing);
-        nested = subst (λ k. Nested k (s.cells.items ++ c ∷ [])) (sym len) (nested_inner m s.cells.items c refl (nth_below s.tables.items t b e) g.standing.known g.nested);
+        nested = subst (λ k. Nested k (s.cells.items ++ c ∷ [])) (sym len) (nested_inner m s.cells.items c refl (slice_get_within s.tables.items t b e) g.standing.known g.nested);
       })
 
 module _ (s : State) (t across down : ℕ) (range : span_range across down ≡ true) (g : Sound s) where

@@ -3,11 +3,6 @@ use Rattle.std.proofs.Common.{◌≡◌, ℕ, zero, suc, ◌<◌, ◌⊎◌, Lis
 use Rattle.std.specs.List.{slice_get}
 
 module _ {A : Type 0} where
-  pub nth_below : (xs : List A) (k : ℕ) (b : A) → slice_get xs k ≡ Some b → k < length xs
-  nth_below [] k b e = let z : ◌≡◌ {A = ℕ} 0 1 = cc in omega arith
-  nth_below (x ∷ xs) zero b e = omega arith
-  nth_below (x ∷ xs) (suc k) b e = omega (arith, nth_below xs k b e)
-
   pub nth_same : (xs : List A) (k : ℕ) (a b : A) → slice_get xs k ≡ Some a → slice_get xs k ≡ Some b → a ≡ b
   nth_same xs k a b p q = cc
 
@@ -39,11 +34,6 @@ module _ {A : Type 0} where
   nth_take (suc n) [] k b h e = e
   nth_take (suc n) (x ∷ xs) zero b h e = e
   nth_take (suc n) (x ∷ xs) (suc k) b h e = nth_take n xs k b (omega arith) e
-
-  pub set_push : (xs : List A) (i : ℕ) (x y : A) → i < length xs → set (xs ++ y ∷ []) i x ≡ set xs i x ++ y ∷ []
-  set_push [] i x y h = absurd (omega arith)
-  set_push (z ∷ xs) zero x y h = refl
-  set_push (z ∷ xs) (suc i) x y h = ap (λ zs. z ∷ zs) (set_push xs i x y (omega arith))
 
   pub nth_set_same : (xs : List A) (i : ℕ) (a b : A) → slice_get xs i ≡ Some b → slice_get (set xs i a) i ≡ Some a
   nth_set_same [] i a b e = let z : ◌≡◌ {A = ℕ} 0 1 = cc in absurd (omega arith)

@@ -4,7 +4,8 @@ use Rattle.std.specs.List.{slice_get}
 use Rattle.std.proofs.lemmas.Bool.{cases_lt}
 use Rattle.plan.specs.declared.record.Cell.{Cell}
 use Rattle.plan.specs.declared.record.Holds.TheVariants.{Content, Inner}
-use Rattle.runs.proofs.Lists.{nth_below, nth_push, nth_old, nth_last}
+use Rattle.std.proofs.lemmas.Option.{slice_get_within}
+use Rattle.runs.proofs.Lists.{nth_push, nth_old, nth_last}
 
 -- cell k holds table n
 pub record Holder (cs : List Cell) (n : ℕ) : Type 0 where
@@ -58,7 +59,7 @@ nested_content m cs c x e s =
         | inr u ↦ absurd (never n a u.1 h)
       ];
       later = λ i k n a b p q h g. elim (nth_push cs c i a p) [
-        | inl u ↦ elim (nth_push cs c k b q) [ inl v ↦ s.later i k n a b u v h g | inr v ↦ omega (arith, nth_below cs i a u, v.0) ]
+        | inl u ↦ elim (nth_push cs c k b q) [ inl v ↦ s.later i k n a b u v h g | inr v ↦ omega (arith, slice_get_within cs i a u, v.0) ]
         | inr u ↦ absurd (never n a u.1 h)
       ];
     }
@@ -87,7 +88,7 @@ nested_inner m cs c e low known s =
         ]
       ];
       later = λ i k n a b p q h g. elim (nth_push cs c i a p) [
-        | inl u ↦ elim (nth_push cs c k b q) [ inl v ↦ s.later i k n a b u v h g | inr v ↦ omega (arith, nth_below cs i a u, v.0) ]
+        | inl u ↦ elim (nth_push cs c k b q) [ inl v ↦ s.later i k n a b u v h g | inr v ↦ omega (arith, slice_get_within cs i a u, v.0) ]
         | inr u ↦ elim (nth_push cs c k b q) [
           | inl v ↦ absurd (omega (arith, known k b v, is_new n a u.1 h))
           | inr v ↦ absurd (omega (arith, is_new n a u.1 h, ap (λ (y : Cell). y.table) v.1))

@@ -15,7 +15,8 @@ use Rattle.plan.specs.Taken.{open_at}
 use Rattle.plan.proofs.Raised.{length_raised, raised_in, raised_out}
 use Rattle.plan.specs.Cells.{takes, free_in}
 use Rattle.plan.specs.Planned.{Apart, CameLowest, Within, Able}
-use Rattle.runs.proofs.Lists.{nth_below, nth_push, nth_set, nth_take}
+use Rattle.std.proofs.lemmas.Option.{slice_get_within}
+use Rattle.runs.proofs.Lists.{nth_push, nth_set, nth_take}
 use Rattle.runs.proofs.Free.{free_push, not_free, all_free}
 
 -- the record of taken columns tells of the current row and all rows below what the cells tell
@@ -177,7 +178,7 @@ module _ (ts : List Table) (cs : List Cell) (t : ℕ) (b : Table) (e : slice_get
 
     came_old : (k : ℕ) (x : Cell) → slice_get cs k ≡ Some x → CameLowest (cs ++ c ∷ []) k x
     came_old k x p =
-        let h : k ≤ length cs = omega (arith, nth_below cs k x p) in
+        let h : k ≤ length cs = omega (arith, slice_get_within cs k x p) in
         let same : take k cs ≡ take k (cs ++ c ∷ []) = sym (take-append-le k cs (c ∷ []) h) in
         let old = s.lowest k x p in
         record {
@@ -203,7 +204,7 @@ module _ (ts : List Table) (cs : List Cell) (t : ℕ) (b : Table) (e : slice_get
       long = λ i x p. elim (nth_set ts t d i x p) [ inl h ↦ subst (λ y. length y.taken.until ≡ 32) h.1 (length_raised b.taken.until j across (current_row b + down) ∙ s.long t b e) | inr h ↦ s.long i x h.1 ];
       known = λ k x p. elim (nth_push cs c k x p) [
         | inl h ↦ omega (arith, s.known k x h, length-set ts t d)
-        | inr h ↦ subst (λ (y : Cell). y.table < length (set ts t d)) h.1 (omega (arith, nth_below ts t b e, length-set ts t d))
+        | inr h ↦ subst (λ (y : Cell). y.table < length (set ts t d)) h.1 (omega (arith, slice_get_within ts t b e, length-set ts t d))
       ];
       within = λ k x y p q. elim (nth_push cs c k x p) [
         | inl h ↦ by_table ts cs t b d e Within within_old s.within k x y h q
@@ -230,7 +231,7 @@ module _ (ts : List Table) (cs : List Cell) (t : ℕ) (b : Table) (e : slice_get
       ordered = λ i k x y h p q same. elim (nth_push cs c k y q) [
         | inl g ↦ elim (nth_push cs c i x p) [
           | inl l ↦ s.ordered i k x y h l g same
-          | inr l ↦ absurd (omega (arith, nth_below cs k y g, l.0))
+          | inr l ↦ absurd (omega (arith, slice_get_within cs k y g, l.0))
         ]
         | inr g ↦ elim (nth_push cs c i x p) [
           | inl l ↦ subst (λ (z : Cell). x.row ≤ z.row) g.1 (row_before i x l (same ∙ ap (λ (z : Cell). z.table) (sym g.1)))

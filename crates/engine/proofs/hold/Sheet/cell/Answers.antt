@@ -2,5 +2,5 @@ use Rattle.runs.proofs.Planned.{planned_reached}
 use Rattle.engine.specs.View.{state}
 use Rattle.engine.proofs.hold.Sheet.cell.Goals as goal
 
-pub returns : goal.returns
-returns c = record { value = c.get.ensures; planned = planned_reached (state c.args.self.now) c.args.self.now.reached }
+pub returns-clause-planned : goal.returns-clause-planned
+returns-clause-planned c = planned_reached (state c.args.self.now) c.args.self.now.reached

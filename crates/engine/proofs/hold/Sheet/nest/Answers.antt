@@ -3,14 +3,8 @@ use Rattle.std.proofs.lemmas.Result.{err_from_is_err_and}
 use Rattle.runs.specs.Calls.{Nest, added}
 use Rattle.engine.specs.View.{state}
 use Rattle.engine.proofs.Same.{same_sheet}
-use Rattle.engine.proofs.Steps.{added_so, reached_added, reached_same, nest_is}
+use Rattle.engine.proofs.Steps.{added_so, reached_added, nest_is}
 use Rattle.engine.proofs.hold.Sheet.nest.Goals as goal
-
-pub invariant_of-self : goal.invariant_of-self
-invariant_of-self c =
-    let m = c.args.self.now in
-    let d = c.in_err-table.ensures in
-    record { reached = reached_same m.tables c.nest_table.new.tables m.cells c.nest_table.new.cells m.laid d.tables_same d.cells_same m.reached }
 
 pub returns-in_err-table : goal.returns-in_err-table
 returns-in_err-table c =

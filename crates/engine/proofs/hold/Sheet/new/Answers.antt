@@ -25,7 +25,7 @@ invariant_of-result c =
     let e = emptied c.new.result c.new-2.result c.args.tables.now c.args.cells.now c.new.ensures.items c.new.ensures.spare c.new-2.ensures.items c.new-2.ensures.spare in
     record { reached = subst (λ s. ∥ Reached s ∥₁) (sym e) (reached_empty c.args.tables.now c.args.cells.now) }
 
-pub returns : goal.returns
-returns c =
+pub returns-clause-runs : goal.returns-clause-runs
+returns-clause-runs c =
     let e = emptied c.new.result c.new-2.result c.args.tables.now c.args.cells.now c.new.ensures.items c.new.ensures.spare c.new-2.ensures.items c.new-2.ensures.spare in
-    record { state = e; runs = λ calls. subst (λ s. Told s calls) (sym e) (told (empty c.args.tables.now c.args.cells.now) calls (sound_empty c.args.tables.now c.args.cells.now)) }
+    λ calls. subst (λ s. Told s calls) (sym e) (told (empty c.args.tables.now c.args.cells.now) calls (sound_empty c.args.tables.now c.args.cells.now))

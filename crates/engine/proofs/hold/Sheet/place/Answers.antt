@@ -3,14 +3,8 @@ use Rattle.std.proofs.lemmas.Result.{err_from_is_err_and}
 use Rattle.runs.specs.Calls.{Place, added}
 use Rattle.engine.specs.View.{state}
 use Rattle.engine.proofs.Same.{same_sheet}
-use Rattle.engine.proofs.Steps.{added_so, reached_added, reached_same, place_is}
+use Rattle.engine.proofs.Steps.{added_so, reached_added, place_is}
 use Rattle.engine.proofs.hold.Sheet.place.Goals as goal
-
-pub invariant_of-self : goal.invariant_of-self
-invariant_of-self c =
-    let m = c.args.self.now in
-    let d = c.in_err-cell.ensures in
-    record { reached = reached_same m.tables c.place_content.new.tables m.cells c.place_content.new.cells m.laid d.tables_same d.cells_same m.reached }
 
 pub returns-in_err-cell : goal.returns-in_err-cell
 returns-in_err-cell c =

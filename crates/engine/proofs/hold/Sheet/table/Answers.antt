@@ -2,5 +2,5 @@ use Rattle.runs.proofs.Same.{tied_reached}
 use Rattle.engine.specs.View.{state}
 use Rattle.engine.proofs.hold.Sheet.table.Goals as goal
 
-pub returns : goal.returns
-returns c = record { value = c.get.ensures; tied = tied_reached (state c.args.self.now) c.args.self.now.reached }
+pub returns-clause-tied : goal.returns-clause-tied
+returns-clause-tied c = tied_reached (state c.args.self.now) c.args.self.now.reached

@@ -3,13 +3,8 @@ use Rattle.std.proofs.lemmas.Result.{err_from_is_err_and}
 use Rattle.runs.specs.Calls.{Width, changed}
 use Rattle.engine.specs.View.{state}
 use Rattle.engine.proofs.Same.{same_sheet}
-use Rattle.engine.proofs.Steps.{reached_changed, reached_same}
+use Rattle.engine.proofs.Steps.{reached_changed}
 use Rattle.engine.proofs.hold.Sheet.width.Goals as goal
-
-pub invariant_of-self : goal.invariant_of-self
-invariant_of-self c =
-    let m = c.args.self.now in
-    record { reached = reached_same m.tables c.fix_width.new.tables m.cells m.cells m.laid c.in_err-fix_width.ensures.1 refl m.reached }
 
 pub returns-in_err-fix_width : goal.returns-in_err-fix_width
 returns-in_err-fix_width c =
