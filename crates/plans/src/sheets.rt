@@ -3,6 +3,7 @@ use crate::sights::*;
 use crate::steps::*;
 use engine::Sheet;
 use plan::{Cell, Table};
+use std::fmt::Debug;
 use std::process::Abort;
 
 // Room for more tables and cells than a sheet can have.
@@ -35,8 +36,22 @@ pub(crate) fn check_run(
     let mut cell_places = [Cell::blank(); CELL_ROOM];
     let mut sheet = sheet_over(&mut table_places, &mut cell_places, rooms);
     check_cases(rt, &mut sheet, rooms, cases);
-    check_tables(rt, &sheet, tables, fixed);
-    check_cells(rt, &sheet, cells);
+    assert_eq!(rt;
+        (sheet.table_count(), sheet.cell_count()),
+        (tables.len(), cells.len())
+    );
+    check_each(
+        rt,
+        TABLE_ROOM,
+        |t| sheet.table(t).map(parts_of),
+        |t| expected_table(tables, fixed, t),
+    );
+    check_each(
+        rt,
+        CELL_ROOM,
+        |i| sheet.cell(i),
+        |i| expected_cell(cells, i),
+    );
 }
 
 // The sheet answers the calls so. Another sheet is spared the calls that are refused, and both tell the same throughout.
@@ -77,22 +92,17 @@ fn tell_the_same(sheet: &Sheet, other: &Sheet) -> bool {
         && (0..sheet.cell_count()).all(|i| sheet.cell(i) == other.cell(i))
 }
 
-// The sheet has these tables and no others.
-fn check_tables(rt: &impl Abort, sheet: &Sheet, tables: &[TableSeen], fixed: &[Fixed]) {
-    assert_eq!(rt; sheet.table_count(), tables.len());
-    for t in 0..TABLE_ROOM {
-        assert_eq!(rt;
-            sheet.table(t).map(parts_of),
-            expected_table(tables, fixed, t),
-            "{t}"
-        );
-    }
-}
-
-// The sheet has these cells and no others.
-fn check_cells(rt: &impl Abort, sheet: &Sheet, cells: &[CellSeen]) {
-    assert_eq!(rt; sheet.cell_count(), cells.len());
-    for i in 0..CELL_ROOM {
-        assert_eq!(rt; sheet.cell(i), expected_cell(cells, i), "{i}");
+// What is seen under each number is what should be there, and nothing where nothing should be.
+fn check_each<T: PartialEq + Debug + Drop, S: Fn(usize) -> Option<T>, E: Fn(usize) -> Option<T>>(
+    rt: &impl Abort,
+    room: usize,
+    seen: S,
+    expected: E,
+)
+    requires seen { S.IsAlwaysCallable seen }
+    requires expected { E.IsAlwaysCallable expected }
+{
+    for i in 0..room {
+        assert_eq!(rt; seen(i), expected(i), "{i}");
     }
 }
