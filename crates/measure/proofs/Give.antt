@@ -1,16 +1,15 @@
 -- The widths that the code gives are those that the offer gives.
 -- Assumes nothing.
-use Rattle.std.proofs.Common.{◌≡◌, ℕ, ◌+◌, ◌-◌, ◌*◌, ◌/◌, ◌<◌, ◌≤◌, List, [], ◌∷◌, map, length, sym, refl, ap, ◌∙◌, mul-le-mul_left, arith}
+use Rattle.std.proofs.Common.{◌≡◌, ℕ, ◌+◌, ◌-◌, ◌*◌, ◌<◌, ◌≤◌, List, [], ◌∷◌, map, length, sym, refl, ap, ◌∙◌, arith}
 use Rattle.std.proofs.lemmas.Bool.{cond-true, cond-false, le-leb, lt-leb}
-use Rattle.share.specs.Share.{total, parts_from, parts}
+use Rattle.share.specs.Share.{total, brings, parts_from, parts}
 use Rattle.plan.specs.declared.record.Column.{Column}
-use Rattle.columns.specs.Columns.{leasts, greatests, spreads, sums, widths_of, least_width, greatest_width}
+use Rattle.columns.specs.Columns.{leasts, greatests, spreads, sums, with_parts, widths_of, least_width, greatest_width}
 use Rattle.measure.specs.declared.column.Bound.{Bound}
 use Rattle.measure.specs.declared.column.Bound.TheVariants.{Least, Greatest}
 use Rattle.measure.specs.Bounds.{bound_of}
 use Rattle.measure.specs.Widths.{as_wide, with_widths, given_of}
 use Rattle.columns.proofs.Offer.{offer_short}
-use Rattle.measure.proofs.Deal.{dealt}
 
 abbrev pub spread : Column → ℕ
 spread c = c.greatest - c.least
@@ -19,13 +18,11 @@ spread c = c.greatest - c.least
 abbrev pub past : ℕ → Column → Column
 past p c = as_wide (c.least + p) c
 
-widened : (W D b : ℕ) (cs : List Column) → dealt spread past W D b cs ≡ with_widths (sums (leasts cs) (parts_from W D b (spreads cs))) cs
-unfolding sums parts_from
-widened W D b [] = refl
-widened W D b (c ∷ cs) = ap (λ ds. past (W * (b + spread c) / D - W * b / D) c ∷ ds) (widened W D (b + spread c) cs)
-
-pub widened_all : (W D : ℕ) (cs ds : List Column) → D ≡ total (spreads cs) → ds ≡ dealt spread past W D 0 cs → ds ≡ with_widths (sums (leasts cs) (parts W (spreads cs))) cs
-widened_all W D cs ds e is = is ∙ ap (λ n. dealt spread past W n 0 cs) e ∙ widened W (total (spreads cs)) 0 cs
+-- columns with their parts past their leasts
+widened : (W D k : ℕ) (cs : List Column) → with_parts past (parts_from W D k (spreads cs)) cs ≡ with_widths (sums (leasts cs) (parts_from W D k (spreads cs))) cs
+unfolding with_parts sums parts_from
+widened W D k [] = refl
+widened W D k (c ∷ cs) = ap (λ ds. past (brings W D (k + spread c) - brings W D k) c ∷ ds) (widened W D (k + spread c) cs)
 
 pub settled_all : (b : Bound) (cs : List Column) → map (λ c. as_wide (bound_of b c) c) cs ≡ with_widths (map (bound_of b) cs) cs
 settled_all b [] = refl
@@ -47,15 +44,8 @@ module _ (q A : ℕ) (cs ds : List Column) where
       ∙ sym (ap (λ ws. with_widths ws cs) (cond-false _ _ _ (lt-leb A (least_width q cs) l) ∙ cond-true _ _ _ (le-leb (greatest_width q cs) A h)))
 
   pub gives_between : (n : ℕ) → n ≡ total (leasts cs) → least_width q cs < A → A < greatest_width q cs →
-      ds ≡ with_widths (sums (leasts cs) (parts (A - (n + q * (length cs + 1))) (spreads cs))) cs → ds ≡ given_of q A cs
+      ds ≡ with_parts past (parts (A - (n + q * (length cs + 1))) (spreads cs)) cs → ds ≡ given_of q A cs
   unfolding widths_of
   gives_between n en l h e =
-      e ∙ ap (λ m. with_widths (sums (leasts cs) (parts (A - (m + q * (length cs + 1))) (spreads cs))) cs) en
+      e ∙ widened (A - (n + q * (length cs + 1))) _ 0 cs ∙ ap (λ m. with_widths (sums (leasts cs) (parts (A - (m + q * (length cs + 1))) (spreads cs))) cs) en
       ∙ sym (ap (λ ws. with_widths ws cs) (cond-false _ _ _ (lt-leb A (least_width q cs) l) ∙ cond-false _ _ _ (lt-leb (greatest_width q cs) A h)))
-
--- the spacings around the columns are small
-pub around_small : (q n : ℕ) → q ≤ 255 → n ≤ 32 → q * (n + 1) ≤ 8415
-around_small q n hq hn =
-    let less : n + 1 ≤ 33 = omega arith in
-    let m : q * (n + 1) ≤ q * 33 = mul-le-mul_left q less in
-    omega arith

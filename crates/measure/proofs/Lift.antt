@@ -1,26 +1,17 @@
 -- What the code does to the columns of one cell, and of all cells of a span, is what the pass says.
 -- Assumes nothing.
-use Rattle.std.proofs.Common.{◌≡◌, ℕ, zero, suc, ◌+◌, ◌<◌, ◌≤◌, Bool, true, false, cond, ◌&&◌, eqb, ltb, leb, List, [], ◌∷◌, map, length, get_or, take, drop, set, Some, None, Option, sym, refl, ap, ◌∙◌, inl, inr, arith}
+use Rattle.std.proofs.Common.{◌≡◌, ℕ, zero, suc, ◌+◌, ◌<◌, ◌≤◌, Bool, true, false, cond, ◌&&◌, eqb, ltb, List, [], ◌∷◌, length, get_or, take, drop, Some, None, Option, sym, refl, ap, ◌∙◌, inl, inr, arith}
 use borrow.Rule.Slice.PartMut.{put_mid}
 use Rattle.std.proofs.lemmas.List.{drop_all, drop_more}
-use Rattle.std.proofs.lemmas.Bool.{cond-true, cond-false, eq-eqb, cases_lt, lt-ltb, le-ltb, leb-true, and_left, and_right, and_parts, false≢true}
+use Rattle.std.proofs.lemmas.Bool.{cond-true, cond-false, cases_lt, lt-ltb, le-ltb, and_left, and_right, and_parts}
+use Rattle.std.proofs.lemmas.Bool.Decides.{nat_tests}
 use Rattle.plan.specs.declared.record.Cell.{Cell}
 use Rattle.plan.specs.declared.record.Column.{Column}
-use Rattle.plan.specs.Blank.{blank_column, blank_cell}
-use Rattle.plan.specs.Steps.{from_to}
+use Rattle.plan.specs.Blank.{blank_cell}
 use Rattle.columns.specs.Columns.{over, each_of}
 use Rattle.columns.specs.Wants.{Want}
 use Rattle.measure.specs.declared.ask.Ask.{Ask}
-use Rattle.measure.specs.Asks.{raised_by, lifted, want_of, asks_in, wants, asked, no_ask}
-
--- one column alone is set
-pub one_set : (f : Column → Column) (cs : List Column) (c : Column) → length cs ≡ 1 → c ≡ f (get_or cs 0 blank_column) → set cs 0 c ≡ map f cs
-one_set f [] c h e = let no : ⊥ = omega arith in absurd no
-one_set f (d ∷ []) c h e = ap (λ x. x ∷ []) e
-one_set f (d ∷ d' ∷ ds) c h e = let no : ⊥ = omega arith in absurd no
-
-pub lifted_one : (q : ℕ) (a : Ask) (cs : List Column) (c : Column) → length cs ≡ 1 → c ≡ raised_by a (get_or cs 0 blank_column) → set cs 0 c ≡ lifted q a cs
-lifted_one q a cs c h e = one_set (raised_by a) cs c h e ∙ sym (cond-true (eqb (length cs) 1) _ _ (eq-eqb (length cs) 1 h))
+use Rattle.measure.specs.Asks.{want_of, asks_in, wants, asked, no_ask}
 
 over_is : {A : Type 0} (f : List A → List A) (i k : ℕ) (xs : List A) → i ≤ length xs → put_mid i k xs (f (take k (drop i xs))) ≡ over f i k xs
 unfolding over
@@ -85,18 +76,15 @@ module _ (f : Want → List Column → List Column) (t n s : ℕ) where
       rest (drop i cs) (drop i as') ds ≡ T → rest (drop (i + 1) cs) (drop (i + 1) as') es ≡ T
   one_more cs as' i ds es T r h er ee e = let m = rest_more cs as' i ds h in cc
 
-abbrev is_some : {A : Type 0} → Option A → Bool
-is_some None = false
-is_some (Some a) = true
+-- a cell that asks lies in the columns
+pub asks_fit : (t n : ℕ) (c : Cell) → asks_in t n c ≡ true → (1 ≤ c.across) × (c.across ≤ 32) × (c.column + c.across ≤ n)
+asks_fit t n c e = grind (arith, nat_tests)
 
 since_some : {A : Type 0} (b : Bool) (a x : A) → cond b (Some a) None ≡ Some x → b ≡ true
 since_some true a x e = refl
-since_some false a x e = absurd (false≢true (ap is_some e))
+since_some false a x e = cc
 
--- a cell that asks lies in the columns
 pub asked_fits : (t n s i : ℕ) (c : Cell) (as' : List Ask) (a : Ask) → asked t n s i c as' ≡ Some a → c.column + c.across ≤ n
 asked_fits t n s i c as' a e =
     let one = and_parts (eqb c.across s) (ltb i (length as') && asks_in t n c) (since_some _ _ a e) in
-    let two = and_parts (ltb i (length as')) (asks_in t n c) one.1 in
-    let three = and_parts (eqb c.table t) (from_to 1 32 c.across && leb (c.column + c.across) n) two.1 in
-    leb-true _ _ (and_parts (from_to 1 32 c.across) (leb (c.column + c.across) n) three.1).1
+    (asks_fit t n c (and_parts (ltb i (length as')) (asks_in t n c) one.1).1).2

@@ -1,11 +1,10 @@
 -- A span that is not marked does not occur, and its walk may be left out.
 -- Assumes nothing.
-use Rattle.std.proofs.Common.{◌≡◌, ℕ, ◌+◌, ◌<◌, ◌≤◌, Bool, true, false, ◌&&◌, eqb, leb, List, [], ◌∷◌, length, get_or, take, set, sym, refl, ap, ◌∙◌, inl, inr, get_or-set_other, get_or-set_same}
+use Rattle.std.proofs.Common.{◌≡◌, ℕ, ◌+◌, ◌<◌, Bool, true, false, eqb, List, [], ◌∷◌, length, get_or, take, set, sym, refl, ap, ◌∙◌, inl, inr, get_or-set_other, get_or-set_same}
 use Rattle.std.proofs.ByRecursion.{All-more}
-use Rattle.std.proofs.lemmas.Bool.{cases_eq, cases_Bool, cond-false, ne_eqb, leb-true, and_parts, true≢false}
+use Rattle.std.proofs.lemmas.Bool.{cases_eq, cases_Bool, cond-false, ne_eqb, true≢false}
 use Rattle.plan.specs.declared.record.Cell.{Cell}
 use Rattle.plan.specs.Blank.{blank_cell}
-use Rattle.plan.specs.Steps.{from_to}
 use Rattle.columns.specs.Columns.{each_of}
 use Rattle.columns.specs.Wants.{Want}
 use Rattle.measure.specs.declared.ask.Ask.{Ask}
@@ -41,9 +40,3 @@ each_absent f t n s (c ∷ cs) (a ∷ as') x h =
           rw is (ap (λ y. each_of s f (wants t n cs as') y) (cond-false (eqb c.across s) _ _ (ne_eqb c.across s (h.0 is))) ∙ each_absent f t n s cs as' x h.1)
       | inr not ↦ rw not (each_absent f t n s cs as' x h.1)
     ]
-
-pub asks_across : (t n : ℕ) (c : Cell) → asks_in t n c ≡ true → c.across ≤ 32
-asks_across t n c e =
-    let one = and_parts (eqb c.table t) (from_to 1 32 c.across && leb (c.column + c.across) n) e in
-    let two = and_parts (from_to 1 32 c.across) (leb (c.column + c.across) n) one.1 in
-    leb-true _ _ (and_parts (leb 1 c.across) (leb c.across 32) two.0).1

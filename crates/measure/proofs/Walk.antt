@@ -1,12 +1,11 @@
 -- The walk over the cells, span by span, is the pass that the rules say.
 -- Assumes nothing.
-use Rattle.std.proofs.Common.{◌≡◌, ℕ, zero, suc, ◌+◌, ◌-◌, ◌<◌, ◌≤◌, true, ◌&&◌, eqb, leb, List, [], ◌∷◌, ◌++◌, map, length, take, drop, sym, refl, ap, ◌∙◌, subst, inl, inr, arith}
+use Rattle.std.proofs.Common.{◌≡◌, ℕ, zero, suc, ◌+◌, ◌-◌, ◌<◌, ◌≤◌, eqb, List, [], ◌∷◌, ◌++◌, map, length, take, drop, sym, refl, ap, ◌∙◌, subst, inl, inr, arith}
 use Rattle.std.specs.List.{AllByRecursion}
 use Rattle.std.proofs.lemmas.List.{length-take-le, length-drop, length-map}
-use Rattle.std.proofs.lemmas.Bool.{cond-true, cond-false, cases_eq, cond_both, eq-eqb, ne_eqb, leb-true, and_parts}
+use Rattle.std.proofs.lemmas.Bool.{cond-true, cond-false, cases_eq, cond_both, eq-eqb, ne_eqb}
 use Rattle.plan.specs.declared.record.Cell.{Cell}
 use Rattle.plan.specs.declared.record.Column.{Column}
-use Rattle.plan.specs.Steps.{from_to}
 use Rattle.columns.specs.Columns.{over, raised_to, raise_one, raise_span, meet_minimum, meet_maximum, each_of, spans, pass, columns_of, fresh, held}
 use Rattle.columns.specs.Wants.{Want}
 use Rattle.columns.specs.Laws.{Fits}
@@ -14,6 +13,7 @@ use Rattle.columns.proofs.Grown.{grown_length, grown_one, grown_span, grown_each
 use Rattle.measure.specs.declared.ask.Ask.{Ask}
 use Rattle.measure.specs.declared.column.Bound.TheVariants.{Least, Greatest}
 use Rattle.measure.specs.Bounds.{meet}
+use Rattle.measure.proofs.Lift.{asks_fit}
 use Rattle.measure.specs.Asks.{asks_in, want_of, wants, lifted, step}
 
 over_same : (f g : List Column → List Column) (i k : ℕ) (cs : List Column) → f (take k (drop i cs)) ≡ g (take k (drop i cs)) → over f i k cs ≡ over g i k cs
@@ -77,13 +77,6 @@ module _ (q : ℕ) where
       let e = each_as s (step q) (raise_span q) (λ x ds is h. step_span q x ds (λ one. absurd (omega arith)) h) (λ x ds. grown_length (grown_span q x ds)) xs cs a in
       let l = grown_length (grown_each_of s (raise_span q) (grown_span q) xs cs) in
       ap (λ ds. spans (step q) n (suc s) xs ds) e ∙ spans_as n (suc s) xs (each_of s (raise_span q) xs cs) (omega arith) (subst (λ m. AllByRecursion (Fits 31 m) xs) l a)
-
-asks_fit : (t n : ℕ) (c : Cell) → asks_in t n c ≡ true → (1 ≤ c.across) × (c.across ≤ 32) × (c.column + c.across ≤ n)
-asks_fit t n c e =
-    let one = and_parts (eqb c.table t) (from_to 1 32 c.across && leb (c.column + c.across) n) e in
-    let two = and_parts (from_to 1 32 c.across) (leb (c.column + c.across) n) one.1 in
-    let three = and_parts (leb 1 c.across) (leb c.across 32) two.0 in
-    (leb-true _ _ three.0, leb-true _ _ three.1, leb-true _ _ two.1)
 
 -- the cells that ask lie in the columns
 pub wants_fit : (t n : ℕ) (cs : List Cell) (as' : List Ask) → AllByRecursion (Fits 31 n) (wants t n cs as')

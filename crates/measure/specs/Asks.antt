@@ -9,6 +9,7 @@ use Rattle.columns.specs.Columns.{over, columns_of}
 use Rattle.columns.specs.Wants.{Want}
 use Rattle.measure.specs.Bounds.{meet}
 use Rattle.measure.specs.declared.ask.Ask.{Ask}
+use Rattle.measure.specs.declared.pass.Asking.{Asking}
 use Rattle.measure.specs.declared.column.Bound.TheVariants.{Least, Greatest}
 
 -- a column raised to what a cell asks
@@ -33,6 +34,10 @@ abbrev pub wants : ℕ → ℕ → List Cell → List Ask → List Want
 wants t n [] as' = []
 wants t n (c ∷ cs) [] = []
 wants t n (c ∷ cs) (a ∷ as') = cond (asks_in t n c) (want_of c a ∷ wants t n cs as') (wants t n cs as')
+
+-- what the cells of `a` ask of the n columns of its table
+abbrev pub asks_of : Asking → ℕ → List Want
+asks_of a n = wants a.table n a.cells.now a.asks.now
 
 abbrev pub no_ask : Ask
 no_ask = record { least = 0; greatest = 0 }

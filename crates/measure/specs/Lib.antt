@@ -1,3 +1,4 @@
+pub mod Sweeps
 pub mod Bounds
 pub mod Asks
 pub mod Widths

@@ -2,33 +2,23 @@
 ghost use Rattle.std.specs.Prelude.{◌≡◌, ◌-◌, ◌≤◌};
 ghost use Rattle.columns.specs.Columns.{free, weight, fresh, held};
 ghost use Rattle.measure.specs.Asks.{raised_by};
-ghost use Rattle.measure.specs.Bounds.{bound_of, more};
+ghost use Rattle.measure.specs.Bounds.{bound_of, more, all_share};
 
 use crate::ask::Ask;
 use plan::{Column, Sizing};
-
-// One of the two bounds of a column's width.
-#[derive(Clone, Copy)]
-pub(crate) enum Bound {
-    Least,
-    Greatest,
-}
 
 // Whether the column is free.
 pub(crate) fn is_free(c: &Column) -> bool
     ensures { result ≡ free c.now }
 {
-    match c.sizing {
-        Sizing::Free => true,
-        Sizing::Fixed(_) => false,
-    }
+    matches!(c.sizing, Sizing::Free)
 }
 
 // What the column counts for in an even share: 1 if it is free, or if all count.
-pub(crate) fn weigh(all: bool, c: &Column) -> u32
+pub(crate) fn weigh(all: bool, c: &Column) -> u16
     ensures { result ≡ weight all c.now }
 {
-    if all || is_free(c) { 1 } else { 0 }
+    u16::from(all || is_free(c))
 }
 
 // The column as it starts.
@@ -58,30 +48,50 @@ pub(crate) fn hold(c: &mut Column)
     }
 }
 
-// One of the bounds.
-pub(crate) fn bound_of(bound: Bound, c: &Column) -> u16
-    ensures { result ≡ bound_of bound c.now }
-{
-    match bound {
-        Bound::Least => c.least,
-        Bound::Greatest => c.greatest,
-    }
+// One of the two bounds of a column's width.
+// It is told by an enum: a trait of two unit types would take two impls for these three matches, and a type parameter for what is told.
+#[derive(Clone, Copy, PartialEq, Eq, Debug)]
+pub(crate) enum Bound {
+    Least,
+    Greatest,
 }
 
-// One of the bounds grows by p; where it is the least, the greatest follows.
-pub(crate) fn grow(bound: Bound, c: &mut Column, p: u16)
-    requires { p ≤ 65535 - bound_of bound c.old }
-    ensures { c.new ≡ more bound p c.old }
-{
-    match bound {
-        Bound::Least => {
-            c.least += p;
-            if is_free(c) {
-                c.greatest = c.greatest.max(c.least);
-            } else {
-                c.greatest = c.least;
-            }
+impl Bound {
+    // The bound of a column.
+    pub(crate) fn of(self, c: &Column) -> u16
+        ensures { result ≡ bound_of self c.now }
+    {
+        match self {
+            Bound::Least => c.least,
+            Bound::Greatest => c.greatest,
         }
-        Bound::Greatest => c.greatest += p,
+    }
+
+    // It grows by p; where it is the least, the greatest follows.
+    pub(crate) fn grow(self, c: &mut Column, p: u16)
+        requires { p ≤ 65535 - bound_of self c.old }
+        ensures { c.new ≡ more self p c.old }
+    {
+        match self {
+            Bound::Least => {
+                c.least += p;
+                c.greatest = if is_free(c) {
+                    c.greatest.max(c.least)
+                } else {
+                    c.least
+                };
+            }
+            Bound::Greatest => c.greatest += p,
+        }
+    }
+
+    // Whether fixed columns share too: only in the leasts, and where no column is free.
+    pub(crate) fn all_share(self, cols: &[Column]) -> bool
+        ensures { result ≡ all_share self cols.now }
+    {
+        match self {
+            Bound::Least => !cols.iter().any(is_free),
+            Bound::Greatest => false,
+        }
     }
 }

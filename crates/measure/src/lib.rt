@@ -5,5 +5,6 @@ pub mod ask;
 mod column;
 mod pass;
 mod span;
+mod sweep;
 pub mod table;
 mod width;

@@ -6,7 +6,7 @@ ghost use Rattle.measure.specs.Asks.{own_columns, measured, wants_of};
 ghost use Rattle.measure.specs.Widths.{offered_to};
 
 use crate::ask::Ask;
-use crate::pass::measure;
+use crate::pass::Asking;
 use crate::width::give;
 use plan::{Cell, Table};
 
@@ -19,7 +19,12 @@ pub fn measure_columns(table: &mut Table, t: usize, cells: &[Cell], asks: &[Ask]
         (wants_of t table.old cells.now asks.now) }
 {
     let n = (table.count as usize).min(32);
-    measure(t, table.spacing, cells, asks, &mut table.columns[0..n]);
+    let asking = Asking {
+        table: t,
+        cells,
+        asks,
+    };
+    asking.measure(table.spacing, &mut table.columns[0..n]);
 }
 
 /// Offers a table a width, the spacings around its columns counted in: the columns get their widths, and the answer is by how much the

@@ -1,5 +1,5 @@
 -- One cell after another is looked at, up to the first fault.
-use Rattle.std.proofs.Common.{◌≡◌, ℕ, ◌+◌, ◌<◌, ◌≤◌, List, length, get_or, drop, Some, None, Ok, Err, Option, Result, sym, refl, ap, ◌∙◌, arith}
+use Rattle.std.proofs.Common.{◌≡◌, ℕ, ◌+◌, ◌<◌, ◌≤◌, List, length, get_or, drop, Some, None, Ok, Err, Option, Result, sym, refl, ap, ◌∙◌}
 use Rattle.fault.specs.declared.Fault.{Fault}
 use Rattle.plan.specs.declared.record.Cell.{Cell}
 use Rattle.plan.specs.Blank.{blank_cell}
@@ -15,12 +15,12 @@ declined f = Err f
 
 -- what an answer tells of the fault
 fault_told : (o : Option Fault) (f : Fault) → unless o accepted ≡ declined f → o ≡ Some f
-fault_told None f e = let z : ◌≡◌ {A = ℕ} 0 1 = cc in absurd (omega arith)
+fault_told None f e = cc
 fault_told (Some g) f e = cc
 
 none_told : (o : Option Fault) (u : Unit {0}) → unless o accepted ≡ Ok u → o ≡ None
 none_told None u e = refl
-none_told (Some g) u e = let z : ◌≡◌ {A = ℕ} 0 1 = cc in absurd (omega arith)
+none_told (Some g) u e = cc
 
 module _ (w : ℕ → Cell → Option Fault) (cs : List Cell) (i : ℕ) where
   pub goes_on : i < length cs → first_fault w i (drop i cs) ≡ first_fault w 0 cs → (u : Unit {0}) → unless (w i (get_or cs i blank_cell)) accepted ≡ Ok u →

@@ -3,8 +3,8 @@ use Rattle.columns.specs.Columns.{each_of}
 use Rattle.measure.specs.Asks.{wants, step}
 use Rattle.measure.proofs.Marks.{each_absent}
 use Rattle.measure.proofs.Walk.{span_more, span_none}
-use Rattle.measure.proofs.pass.lift_spans.Goals as goal
-use Rattle.measure.proofs.pass.lift_spans.Goals.{then-marks-s, else-marks-s}
+use Rattle.measure.proofs.pass.Asking.lift_spans.Goals as goal
+use Rattle.measure.proofs.pass.Asking.lift_spans.Goals.{then-marks-s, else-marks-s}
 
 pub loop-s-preserved : goal.loop-s-preserved
 loop-s-preserved c =
@@ -12,19 +12,19 @@ loop-s-preserved c =
     let s = c.loop-s.s in
     let f = step a.spacing in
     let n = length a.cols.now in
-    let xs = wants a.t n a.cells.now a.asks.now in
+    let xs = wants a.self.now.table n a.self.now.cells.now a.self.now.asks.now in
     elim c.if-marks-s.branch [
       | then-marks-s w ↦
           span_more f s xs c.loop-s.cols c.if-marks-s.cols _ (omega arith)
-          (w.cols-is ∙ w.lift_all.ensures ∙ ap (λ m. each_of s f (wants a.t m a.cells.now a.asks.now) c.loop-s.cols) c.loop-s.auto.cols)
+          (w.cols-is ∙ w.lift_all.ensures ∙ ap (λ m. each_of s f (wants a.self.now.table m a.self.now.cells.now a.self.now.asks.now) c.loop-s.cols) c.loop-s.auto.cols)
           c.loop-s.invariant
       | else-marks-s w ↦
           span_more f s xs c.loop-s.cols c.if-marks-s.cols _ (omega arith)
-          (w.cols-is ∙ sym (each_absent f a.t n s a.cells.now a.asks.now c.loop-s.cols (c.mark_spans-marks.ensures s w.if-marks-s.false)))
+          (w.cols-is ∙ sym (each_absent f a.self.now.table n s a.self.now.cells.now a.self.now.asks.now c.loop-s.cols (c.mark_spans-marks.ensures s w.if-marks-s.false)))
           c.loop-s.invariant
     ]
 
 pub returns : goal.returns
 returns c =
     let a = c.args in
-    span_none (step a.spacing) c.loop-s.s (wants a.t (length a.cols.now) a.cells.now a.asks.now) c.loop-s.cols _ (omega arith) c.loop-s.invariant
+    span_none (step a.spacing) c.loop-s.s (wants a.self.now.table (length a.cols.now) a.self.now.cells.now a.self.now.asks.now) c.loop-s.cols _ (omega arith) c.loop-s.invariant
