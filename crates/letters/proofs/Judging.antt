@@ -1,12 +1,13 @@
 -- How the verdict goes on from character to character, and what it says.
-use Rattle.std.proofs.Common.{◌≡◌, ℕ, zero, suc, ◌+◌, ◌<◌, ◌≤◌, false, cond, not, ◌&&◌, ◌||◌, eqb, List, [], ◌∷◌, ◌++◌, length, get_or, take, drop, Some, Ok, Err, codes, Result, sym, refl, ap, ◌∙◌, subst, arith, length-drop, take-add}
+use Rattle.std.proofs.Common.{◌≡◌, ℕ, zero, suc, ◌+◌, ◌<◌, Bool, false, cond, not, eqb, List, [], ◌∷◌, ◌++◌, length, take, drop, Some, None, Err, codes, Option, Result, MatchOption, Bor, sym, refl, ap, ◌∙◌, subst, arith, length-drop, take-add}
+use Rattle.std.specs.List.{find}
+use Rattle.std.specs.Option.{option_map}
 use Rattle.std.proofs.lemmas.Slice.Eq.{bytes_eq-Decides}
-use Rattle.std.proofs.lemmas.List.{drop-drop, drop_all, at_drop_more, take_all}
-use Rattle.std.proofs.lemmas.Bool.{cond_both, cond-true, cond-false, ne_eqb, eq-eqb}
+use Rattle.std.proofs.lemmas.List.{drop-drop}
+use Rattle.std.proofs.lemmas.Bool.{cond_both, cond-false, ne_eqb}
 use Rattle.std.proofs.lemmas.Bool.Decides.{nat_tests}
 use Rattle.fault.specs.Numbers.{fault}
 use Rattle.fault.specs.declared.Fault.{Fault}
-use Rattle.fault.specs.declared.Reason.TheVariants.{ByteNotAllowed, Malformed}
 use Rattle.classes.specs.Classes.{from_to}
 use Rattle.letters.specs.declared.Kind.{Kind}
 use Rattle.letters.specs.Letters.{plain, allowed, itself, letter_of, letter_at, letters}
@@ -17,14 +18,21 @@ use Rattle.letters.proofs.Steps.{by_letter}
 use Rattle.letters.proofs.Spelled.{spelled_read}
 
 module _ (kind : Kind) where
-  pub badly_more : (s : List ℕ) (i b : ℕ) → i < length s → b ≡ get_or s i 0 → ends_badly kind (drop i s) ≡ cond (from_to 97 122 b) (ends_badly kind (drop (i + 1) s)) (not (allowed kind b))
-  badly_more s i b h e = at_drop_more (ends_badly kind) s i 0 h ∙ ap (λ x. ends_badly kind (x ∷ drop (i + 1) s)) (sym e)
+  -- what the first byte that is no small letter says
+  said : Option ℕ → Bool
+  said None = false
+  said (Some b) = not (allowed kind b)
 
-  pub badly_none : (s : List ℕ) (i : ℕ) → length s ≤ i → ends_badly kind (drop i s) ≡ false
-  badly_none s i h = ap (ends_badly kind) (drop_all i s h)
+  ends_badly-find : (bs : List ℕ) → ends_badly kind bs ≡ said (find (λ b. not (from_to 97 122 b)) bs)
+  unfolding said
+  ends_badly-find [] = refl
+  ends_badly-find (b ∷ bs) =
+      cond_both {A = Bool} (from_to 97 122 b) (ends_badly kind bs) (not (allowed kind b)) (λ v. v ≡ said (find (λ b. not (from_to 97 122 b)) (b ∷ bs))) (λ e. simp e (ends_badly-find bs)) (λ e. simp e)
 
-  pub reason_at_lem : (s : List ℕ) (i b : ℕ) → i < length s → b ≡ get_or s i 0 → reason_of kind (drop i s) ≡ cond (eqb b 60 || (eqb b 38 && not (ends_badly kind (drop (i + 1) s)))) Malformed ByteNotAllowed
-  reason_at_lem s i b h e = at_drop_more (reason_of kind) s i 0 h ∙ ap (λ x. reason_of kind (x ∷ drop (i + 1) s)) (sym e)
+  pub badly_found : (bs : List ℕ) (r : Option (Bor ℕ)) (answer : Bool) → option_map (λ (b : Bor ℕ). b.now) r ≡ find (λ b. not (from_to 97 122 b)) bs → MatchOption r (answer ≡ false) (λ b. answer ≡ not (allowed kind b.now)) → answer ≡ ends_badly kind bs
+  unfolding said
+  badly_found bs None answer e a = a ∙ ap said e ∙ sym (ends_badly-find bs)
+  badly_found bs (Some b) answer e a = a ∙ ap said e ∙ sym (ends_badly-find bs)
 
   verdict_drop : (n at : ℕ) (bs : List ℕ) → verdict_after kind n at bs ≡ verdict_after kind 0 (at + n) (drop n bs)
   verdict_drop zero at bs = ap (λ k. verdict_after kind 0 k bs) (omega arith)
@@ -47,14 +55,6 @@ module _ (kind : Kind) where
       ap (verdict_after kind 0 (at + 1 + (letter_of kind (drop at s)).1)) (drop-drop (suc (letter_of kind (drop at s)).1) at s) ∙
       ap (λ k. verdict_after kind 0 (at + 1 + (letter_of kind (drop at s)).1) (drop k s)) (omega arith) ∙
       ap (verdict_from s) (sym en)
-
-  pub verdict_stop : (s : List ℕ) (at c : ℕ) → at < length s → c ≡ (letter_of kind (drop at s)).0 → c ≡ 0 → verdict_from s at ≡ Err (fault (reason_of kind (drop at s)) at)
-  verdict_stop s at c h ec none =
-      verdict_cons (drop at s) at (omega (arith, length-drop at s)) ∙
-      cond-true (eqb (letter_of kind (drop at s)).0 0) _ _ (ap (λ x. eqb x 0) (sym ec) ∙ eq-eqb c 0 none)
-
-  pub verdict_none : (s : List ℕ) (at : ℕ) → length s ≤ at → verdict_from s at ≡ Ok tt
-  verdict_none s at h = ap (verdict_after kind 0 at) (drop_all at s h)
 
   spells_append : {us xs bs ys : List ℕ} → Spells kind us xs → Spells kind bs ys → Spells kind (us ++ bs) (xs ++ ys)
   spells_append nothing q = q
@@ -97,9 +97,6 @@ module _ (kind : Kind) where
       let whole : take at s ++ take (suc m) (drop at s) ≡ take next s = sym (take-add at (suc m) s) ∙ ap (λ j. take j s) k in
       let q = subst (λ t. Spells kind t (letters kind (take at s) ++ (letter_of kind (drop at s)).0 ∷ [])) whole both in
       subst (Spells kind (take next s)) (sym (spelled_read kind q).0) q
-
-  pub spelled_all : (s : List ℕ) (at : ℕ) → length s ≤ at → SpelledTo s at → Spells kind s (letters kind s)
-  spelled_all s at h p = subst (λ t. Spells kind t (letters kind t)) (take_all at s h) p
 
   -- what is known of the character at a byte
   pub letter_parts : (s : List ℕ) (at : ℕ) (l : Letter) → Some l ≡ letter_at kind s at → (at < length s) × (l.glyph ≡ (letter_of kind (drop at s)).0) × (l.next ≡ at + 1 + (letter_of kind (drop at s)).1)

@@ -1,9 +1,12 @@
 // The characters that the bytes of a content stand for.
 #![tactic(auto)]
 
-ghost use Rattle.std.specs.Prelude.{◌≡◌, ◌<◌, ◌≤◌, length, drop, MatchOption};
+ghost use Rattle.std.specs.Prelude.{◌≡◌, ◌-◌, ◌≤◌, not, length, Some, None, ◌==◌, MatchOption};
+ghost use Rattle.std.specs.Iterator.{at_most};
 ghost use Rattle.classes.specs.Classes.{white};
 ghost use Rattle.letters.specs.Letters.{begins, plain, allowed, letter_of, letter_at, Stepped};
+ghost use Rattle.letters.specs.References.{reference_of};
+ghost use Rattle.letters.specs.Walks.{Moves};
 ghost use Rattle.letters.specs.Verdicts.{ends_badly, reason_of, verdict, Judged};
 
 use classes::{Class, class_of};
@@ -16,20 +19,37 @@ pub enum Kind {
     Block,
 }
 
-/// A character, and the byte after its last one. The character 0 stands for a byte that begins none.
+/// A character, and the byte after its last one. The character 0 stands for a byte that begins none, as in `letters` of the specification.
 #[derive(Clone, Copy)]
 pub struct Letter {
     pub glyph: u8,
     pub next: usize,
 }
 
+impl Letter {
+    /// Whether the byte begins a character.
+    pub fn is_character(self) -> bool
+        ensures { result ≡ not (self.glyph == 0) }
+    {
+        self.glyph != 0
+    }
+}
+
 /// Whether a byte is white space.
 pub fn is_white(b: u8) -> bool
     ensures { result ≡ white b }
 {
+    matches!(class_of(b), Class::White)
+}
+
+// Whether a byte may stand in a content at all.
+fn is_allowed(kind: Kind, b: u8) -> bool
+    ensures { result ≡ allowed kind b }
+{
     match class_of(b) {
-        Class::White => true,
-        _ => false,
+        Class::White => matches!(kind, Kind::Text) || b == b'\n' || b == b' ',
+        Class::Forbidden => false,
+        _ => true,
     }
 }
 
@@ -37,17 +57,16 @@ pub fn is_white(b: u8) -> bool
 fn is_plain(kind: Kind, b: u8) -> bool
     ensures { result ≡ plain kind b }
 {
-    match class_of(b) {
-        Class::White => match kind {
-            Kind::Text => true,
-            Kind::Block => b == b'\n' || b == b' ',
-        },
-        Class::Less => false,
-        Class::Ampersand => false,
-        Class::Forbidden => false,
-        _ => true,
-    }
+    is_allowed(kind, b) && b != b'<' && b != b'&'
 }
+
+// The references, and the character that each stands for.
+const REFERENCES: [(&[u8], u8); 4] = [
+    (b"&lt;", b'<'),
+    (b"&gt;", b'>'),
+    (b"&amp;", b'&'),
+    (b"&quot;", b'"'),
+];
 
 fn starts(rest: &[u8], what: &[u8]) -> bool
     ensures { result ≡ begins what.now rest.now }
@@ -55,26 +74,26 @@ fn starts(rest: &[u8], what: &[u8]) -> bool
     rest.starts_with(what)
 }
 
+// The reference that the bytes begin with, and the character that it stands for.
+fn first_reference(rest: &[u8]) -> Option<&'static (&'static [u8], u8)>
+    ensures { MatchOption result (reference_of rest.now ≡ None) (λ p. reference_of rest.now ≡ Some (p.now.0.now, p.now.1)) }
+{
+    REFERENCES
+        .iter()
+        .find(|(spelling, _)| starts(rest, spelling))
+}
+
 // The character that the bytes begin with, and how many bytes more than one it takes.
 fn first_letter(kind: Kind, rest: &[u8]) -> (u8, usize)
     ensures { result ≡ letter_of kind rest.now }
 {
-    if starts(rest, b"&lt;") {
-        return (b'<', 3);
+    if let Some((spelling, glyph)) = first_reference(rest) {
+        return (*glyph, spelling.len() - 1);
     }
-    if starts(rest, b"&gt;") {
-        return (b'>', 3);
+    match rest {
+        [b, ..] if is_plain(kind, *b) => (*b, 0),
+        _ => (0, 0),
     }
-    if starts(rest, b"&amp;") {
-        return (b'&', 4);
-    }
-    if starts(rest, b"&quot;") {
-        return (b'"', 5);
-    }
-    if rest.len() > 0 && is_plain(kind, rest[0]) {
-        return (rest[0], 0);
-    }
-    (0, 0)
 }
 
 /// The character at a byte, or none past the last byte.
@@ -92,48 +111,61 @@ pub fn next_letter(kind: Kind, s: &[u8], at: usize) -> Option<Letter>
     })
 }
 
-// Whether a byte may stand in a content at all.
-fn is_allowed(kind: Kind, b: u8) -> bool
-    ensures { result ≡ allowed kind b }
-{
-    match class_of(b) {
-        Class::White => match kind {
-            Kind::Text => true,
-            Kind::Block => b == b'\n' || b == b' ',
-        },
-        Class::Forbidden => false,
-        _ => true,
+/// The characters of the bytes from one of them on, each with its first byte.
+#[derive(Clone, Copy)]
+pub struct Letters<'f> {
+    kind: Kind,
+    bytes: &'f [u8],
+    at: usize,
+    ghost within: { at ≤ length bytes.now },
+}
+
+impl<'f> Letters<'f> {
+    /// The characters from byte `at` on.
+    pub fn new(kind: Kind, bytes: &'f [u8], at: usize) -> Letters<'f>
+        requires { at ≤ length bytes.now }
+        ensures kind { result.kind ≡ kind }
+        ensures bytes { result.bytes.now ≡ bytes.now }
+        ensures at { result.at ≡ at }
+    {
+        Letters { kind, bytes, at }
     }
 }
 
-// Whether small letters from a byte on end at a byte that is not allowed.
-fn is_badly_ended(kind: Kind, s: &[u8], at: usize) -> bool
-    ensures { result ≡ ends_badly kind (drop at s.now) }
-{
-    let mut i = at;
-    while i < s.len() {
-        let b = s[i];
-        if b < b'a' || b > b'z' {
-            return !is_allowed(kind, b);
-        }
-        i += 1;
+impl<'f> Iterator for Letters<'f> {
+    type Item = (usize, Letter);
+
+    ghost next_gives = { λ s r t. Moves s.kind s.bytes.now s.at t.kind t.bytes.now t.at r };
+
+    ghost remaining = { λ s. at_most (length s.bytes.now - s.at) };
+
+    fn next(&mut self) -> Option<(usize, Letter)> {
+        let at = self.at;
+        let letter = next_letter(self.kind, self.bytes, at)?;
+        self.at = letter.next;
+        Some((at, letter))
     }
-    false
 }
 
-// Why no character begins at a byte.
-fn reason_at(kind: Kind, s: &[u8], at: usize) -> Reason
-    requires { at < length s.now }
-    ensures { result ≡ reason_of kind (drop at s.now) }
+// Whether the bytes begin with small letters that end at a byte that is not allowed.
+fn is_badly_ended(kind: Kind, bytes: &[u8]) -> bool
+    ensures { result ≡ ends_badly kind bytes.now }
 {
-    let b = s[at];
-    if b == b'<' {
-        return Reason::Malformed;
+    bytes
+        .iter()
+        .find(|b| !b.is_ascii_lowercase())
+        .is_some_and(|b| !is_allowed(kind, *b))
+}
+
+// Why no character begins where the bytes begin.
+fn reason(kind: Kind, bytes: &[u8]) -> Reason
+    ensures { result ≡ reason_of kind bytes.now }
+{
+    match bytes {
+        [b'<', ..] => Reason::Malformed,
+        [b'&', name @ ..] if !is_badly_ended(kind, name) => Reason::Malformed,
+        _ => Reason::ByteNotAllowed,
     }
-    if b == b'&' && !is_badly_ended(kind, s, at + 1) {
-        return Reason::Malformed;
-    }
-    Reason::ByteNotAllowed
 }
 
 /// Whether all bytes are those of a content, or the first that is not.
@@ -141,12 +173,10 @@ pub fn verify(kind: Kind, s: &[u8]) -> Result<(), Fault>
     ensures value { result ≡ verdict kind s.now }
     ensures judged { Judged kind s.now result }
 {
-    let mut at = 0;
-    while let Some(letter) = next_letter(kind, s, at) {
-        if letter.glyph == 0 {
-            return Err(Fault::at(reason_at(kind, s, at), at));
+    for (at, letter) in Letters::new(kind, s, 0) {
+        if !letter.is_character() {
+            return Err(Fault::at(reason(kind, &s[at..]), at));
         }
-        at = letter.next;
     }
     Ok(())
 }

@@ -33,12 +33,7 @@ pub(crate) fn check_shelf<S: Shelf>(
 }
 
 fn has(contents: &[Content], number: u16) -> bool {
-    for (k, _, _, _, _) in contents {
-        if *k == number {
-            return true;
-        }
-    }
-    false
+    contents.iter().any(|(k, ..)| *k == number)
 }
 
 // Content k has the two widths, and is set at none that is smaller or past 2000.
@@ -62,14 +57,12 @@ fn check_page<S: Shelf>(
     w: u16,
     page: &[u8],
 ) -> Result<(), Fail> {
-    if page.len() == 0 {
+    if page.is_empty() {
         return check_unfit(rt, shelf, k, w);
     }
     assert!(rt; w > 0);
-    let mut r = 0u16;
-    for line in page.chunks_exact(w as usize) {
+    for (r, line) in (0..u16::MAX).zip(page.chunks_exact(w as usize)) {
         check_line(rt, shelf, k, w, r, line)?;
-        r = r.saturating_add(1);
     }
     check_end(rt, shelf, k, w, page.len())
 }

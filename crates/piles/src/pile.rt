@@ -27,42 +27,17 @@ pub(crate) fn check_pile<S: Shelf + Drop>(
 ) -> Result<(), Fail> {
     match pile {
         Pile::Bare => check_shelf(rt, &below, contents),
-        Pile::Padding(size) => check_padded(rt, size, below, contents),
-        Pile::Frame(size) => check_framed(rt, size, below, contents),
-        Pile::FramePadding(size) => check_framed(rt, 1, Padding::new(below, size)?, contents),
-        Pile::PaddingFrame(size) => check_padding_frame(rt, size, below, contents),
-        Pile::PaddingFramePaddingFrame => check_padding_frame(
-            rt,
-            1,
-            Padding::new(Frame::new(below, 1)?, 1)?,
-            contents,
-        ),
+        Pile::Padding(size) => check_shelf(rt, &Padding::new(below, size)?, contents),
+        Pile::Frame(size) => check_shelf(rt, &Frame::new(below, size)?, contents),
+        Pile::FramePadding(size) => {
+            check_shelf(rt, &Frame::new(Padding::new(below, size)?, 1)?, contents)
+        },
+        Pile::PaddingFrame(size) => {
+            check_shelf(rt, &Padding::new(Frame::new(below, 1)?, size)?, contents)
+        },
+        Pile::PaddingFramePaddingFrame => {
+            let inner = Padding::new(Frame::new(below, 1)?, 1)?;
+            check_shelf(rt, &Padding::new(Frame::new(inner, 1)?, 1)?, contents)
+        },
     }
-}
-
-fn check_padded<S: Shelf + Drop>(
-    rt: &impl Abort,
-    size: u8,
-    below: S,
-    contents: &[Content],
-) -> Result<(), Fail> {
-    check_shelf(rt, &Padding::new(below, size)?, contents)
-}
-
-fn check_framed<S: Shelf + Drop>(
-    rt: &impl Abort,
-    size: u8,
-    below: S,
-    contents: &[Content],
-) -> Result<(), Fail> {
-    check_shelf(rt, &Frame::new(below, size)?, contents)
-}
-
-fn check_padding_frame<S: Shelf + Drop>(
-    rt: &impl Abort,
-    size: u8,
-    below: S,
-    contents: &[Content],
-) -> Result<(), Fail> {
-    check_padded(rt, size, Frame::new(below, 1)?, contents)
 }

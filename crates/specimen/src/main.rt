@@ -60,20 +60,11 @@ fn show(rt: &HostRuntime, file: &[u8]) -> Result<(), Trouble> {
     let size = measure(&framed)?;
     let words = count_words(file);
     println!(rt; "read {end} bytes, {words} words")?;
-    print_size(rt, size)?;
+    println!(rt; "{size}")?;
     let mut row = [b' '; 2000];
     let wide = size.width as usize;
     print_lines(rt, &framed, size, &mut row[0..wide])?;
     Ok(())
-}
-
-fn print_size(rt: &HostRuntime, size: Size) -> io::Result<()> {
-    let least = size.least;
-    let most = size.most;
-    let width = size.width;
-    let height = size.height;
-    println!(rt; "widths from {least} to {most}")?;
-    println!(rt; "set {width} wide, {height} high")
 }
 
 // Prints the lines of content 0 by way of a row of its width. Its size was told by the shelf, so no line is refused.

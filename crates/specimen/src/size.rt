@@ -4,6 +4,7 @@ ghost use Rattle.specimen.specs.Sizes.{size_answer};
 
 use fault::Fault;
 use shelf::Shelf;
+use std::fmt;
 
 /// The width that is wished for.
 const WISHED: u16 = 60;
@@ -15,6 +16,21 @@ pub(crate) struct Size {
     pub(crate) most: u16,
     pub(crate) width: u16,
     pub(crate) height: u16,
+}
+
+impl fmt::Display for Size {
+    fn fmt<W: fmt::Write>(&self, f: &mut fmt::Formatter<W>) -> fmt::Result {
+        let Size {
+            least,
+            most,
+            width,
+            height,
+        } = *self;
+        write!(
+            f,
+            "widths from {least} to {most}\nset {width} wide, {height} high"
+        )
+    }
 }
 
 /// The size of content 0 at 60 columns, or at its minimum if that is larger.

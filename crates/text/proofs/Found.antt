@@ -1,7 +1,7 @@
 -- The place of a content, and the bytes that stand there.
-use Rattle.std.proofs.Common.{◌≡◌, ℕ, zero, suc, ◌<◌, ◌≤◌, true, false, leb, ◌⊎◌, List, [], ◌∷◌, length, Some, None, sym, refl, ap, ◌∙◌, ⊎_elim}
+use Rattle.std.proofs.Common.{◌≡◌, ℕ, zero, suc, ◌+◌, ◌<◌, ◌≤◌, true, false, leb, ◌⊎◌, List, [], ◌∷◌, length, Some, None, Option, MatchOption, Bor, sym, refl, ap, ◌∙◌, ⊎_elim}
 use Rattle.std.proofs.lemmas.Bool.{and_from, and_left, and_right, le-leb, lt-leb}
-use Rattle.std.specs.List.{slice_get}
+use Rattle.std.specs.List.{slice_get, slice_range}
 use Rattle.text.specs.declared.place.Place.{Place}
 use Rattle.text.specs.Places.{nowhere, place_at, inside, stretch_of, bytes_of}
 
@@ -32,3 +32,8 @@ module _ (file : List ℕ) (ps : List Place) (k : ℕ) where
     within low high =
         let at = place_some ps k p e in
         (ap (inside file) at ∙ and_from (leb p.from p.to) (leb p.to (length file)) (le-leb p.from p.to low) (le-leb p.to (length file) high), ap (stretch_of file) (sym at))
+
+    -- what the file gives for the range of the place
+    pub stretched : (r : Option (Bor (List ℕ))) → MatchOption r ((p.to < p.from) ⊎ (length file < p.to)) (λ x. (p.from ≤ p.to) × (p.to ≤ length file) × (x.now ≡ slice_range file p.from p.to) × (length x.now + p.from ≡ p.to)) → MatchOption r (inside file (place_at ps k) ≡ false) (λ x. (inside file (place_at ps k) ≡ true) × (x.now ≡ bytes_of file ps k))
+    stretched None h = outside h
+    stretched (Some x) h = let w = within h.0 h.1 in (w.0, h.2 ∙ w.1)

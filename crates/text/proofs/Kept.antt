@@ -1,9 +1,10 @@
 -- Nothing of the texts and blocks of a file is lost.
 use Rattle.std.proofs.Common.{ℕ, List}
+use Rattle.letters.specs.declared.Kind.{Kind}
 use Rattle.letters.specs.declared.Kind.TheVariants.{Text, Block}
 use Rattle.typeset.proofs.Lawfully.{present, shows_text, shows_block}
 use Rattle.text.specs.declared.place.Place.{Place}
-use Rattle.text.specs.Places.{place_at, inside, bytes_of, TextsKept, BlocksKept}
+use Rattle.text.specs.Places.{place_at, inside, bytes_of, TextsKept, BlocksKept, Kept}
 
 module _ (file : List ℕ) (ps : List Place) where
   pub texts_kept : TextsKept file ps
@@ -17,3 +18,7 @@ module _ (file : List ℕ) (ps : List Place) where
     present = present (λ k. inside file (place_at ps k)) (bytes_of file ps) Block;
     shown = shows_block (λ k. inside file (place_at ps k)) (bytes_of file ps);
   }
+
+pub kept : (kind : Kind) (file : List ℕ) (ps : List Place) → Kept kind file ps
+kept Text file ps = texts_kept file ps
+kept Block file ps = blocks_kept file ps

@@ -1,2 +1,4 @@
 pub mod Found
 pub mod Kept
+pub mod Counted
+pub mod Scanning

@@ -38,3 +38,8 @@ pub record TextsKept (file : List ℕ) (ps : List Place) : Type 0 where
 pub record BlocksKept (file : List ℕ) (ps : List Place) : Type 0 where
   pub present : (k : ℕ) → Present Block (contents Block file ps) k (inside file (place_at ps k)) (bytes_of file ps k)
   pub shown : (k : ℕ) → (contents Block file ps).has k ≡ true → ShowsBlock (contents Block file ps) k (bytes_of file ps k)
+
+-- every content of the kind is on the shelf and shown with all its words, or all its lines
+abbrev pub Kept : Kind → List ℕ → List Place → Type 0
+Kept Text file ps = TextsKept file ps
+Kept Block file ps = BlocksKept file ps

@@ -1,62 +1,57 @@
 // The lines of a block, as newlines part them.
-ghost use Rattle.std.specs.Prelude.{◌≡◌, ◌≤◌, length, replicate};
+ghost use Rattle.std.specs.Prelude.{◌≡◌, ◌≤◌, length, replicate, MatchOption};
+ghost use Rattle.letters.specs.Letters.{letters};
 ghost use Rattle.letters.specs.declared.Kind.TheVariants.{Block};
 ghost use Rattle.typeset.specs.Words.{longest};
 ghost use Rattle.typeset.specs.Lines.{first, blank_filled};
-ghost use Rattle.typeset.specs.Rows.{rows_from};
-ghost use Rattle.typeset.specs.Contents.{Surveyed};
+ghost use Rattle.typeset.specs.Rows.{rows};
+ghost use Rattle.text.specs.Readings.{NoContent, Tells};
 
 use crate::survey::{Survey, begin, measure};
-use letters::{Kind, next_letter};
+use letters::{Kind, Letters};
 
 /// Reads a block once: where its line r begins, and all that is asked before it is shown.
-pub(crate) fn survey_block(s: &[u8], w: u16, r: u16) -> Survey
-    ensures { Surveyed Block s.now w r result.good result.least result.most result.high result.start }
+pub(crate) fn survey_block(s: &[u8], w: u16, r: u16) -> Option<Survey>
+    ensures { MatchOption result (NoContent Block s.now) (Tells Block s.now w r) }
 {
     let row = r as usize;
-    let mut at = 0;
-    let mut good = true;
     let mut least = 0usize;
     let mut width = 0usize;
     let mut high = 1;
     let mut start = 0;
-    while let Some(letter) = next_letter(Kind::Block, s, at) {
+    for (_, letter) in Letters::new(Kind::Block, s, 0) {
         if letter.glyph == b'\n' {
             start = begin(high, row, letter.next, start);
             least = width.max(least);
             width = 0;
             high += 1;
-        } else {
-            good &= letter.glyph != 0;
+        } else if letter.is_character() {
             width += 1;
+        } else {
+            return None;
         }
-        at = letter.next;
     }
     let wide = measure(width.max(least));
-    Survey {
-        good,
+    Some(Survey {
         least: wide,
         most: wide,
         high: high.min(65535) as u16,
         start,
-    }
+    })
 }
 
-/// Writes over blanks the line that begins at a byte.
-pub(crate) fn write_row(s: &[u8], from: usize, out: &mut [u8])
-    requires fits { longest (rows_from s.now from) ≤ length out.old }
+/// Writes over blanks the first line of the bytes.
+pub(crate) fn write_row(s: &[u8], out: &mut [u8])
+    requires fits { longest (rows (letters Block s.now)) ≤ length out.old }
     requires blank { out.old ≡ replicate (length out.old) 32 }
-    ensures { out.new ≡ blank_filled (length out.old) (first (rows_from s.now from)) }
+    ensures { out.new ≡ blank_filled (length out.old) (first (rows (letters Block s.now))) }
 {
-    let mut at = from;
+    // No `zip`: of a loop over one the check does not learn what stands in `out` after it, so that `out.new` stays open.
+    let mut letters = Letters::new(Kind::Block, s, 0);
     for x in out.iter_mut() {
-        let Some(letter) = next_letter(Kind::Block, s, at) else {
-            return;
-        };
-        if letter.glyph == b'\n' {
-            return;
+        match letters.next() {
+            Some((_, letter)) if letter.glyph != b'\n' => *x = letter.glyph,
+            _ => return,
         }
-        *x = letter.glyph;
-        at = letter.next;
     }
 }

@@ -1,12 +1,15 @@
 // Words are found in the bytes, one after the other.
-ghost use Rattle.std.specs.Prelude.{◌≡◌, ◌+◌, ◌<◌, ◌≤◌, true, false, ◌&&◌, [], ◌∷◌, length, take, MatchOption};
+ghost use Rattle.std.specs.Prelude.{◌≡◌, ◌+◌, ◌-◌, ◌<◌, ◌≤◌, true, ◌&&◌, [], length, take, MatchOption};
+ghost use Rattle.std.specs.Iterator.{at_most};
 ghost use Rattle.letters.specs.Letters.{letters_from, sound};
 ghost use Rattle.letters.specs.declared.Kind.TheVariants.{Text};
-ghost use Rattle.typeset.specs.Words.{words_from, closed, inked, Found};
+ghost use Rattle.typeset.specs.Words.{words_from, closed, inked};
+ghost use Rattle.text.specs.Scans.{Skipped, Scans};
 
-use letters::{Kind, is_white, next_letter};
+use letters::{Kind, Letters, is_white};
 
-/// A word: where it begins, the byte after its last, how many characters it has, and whether its bytes are all characters.
+/// A word: where it begins, the byte after its last, how many characters it has, and whether its bytes are all characters. A word of
+/// other bytes is a word too, and counted, so this is told beside the rest.
 #[derive(Clone, Copy)]
 pub(crate) struct Word {
     pub(crate) from: usize,
@@ -15,63 +18,79 @@ pub(crate) struct Word {
     pub(crate) good: bool,
 }
 
-// The first byte from at on that begins a character other than white space, or the end.
-fn skip(s: &[u8], at: usize) -> usize
-    requires { at ≤ length s.now }
-    ensures low { at ≤ result }
-    ensures high { result ≤ length s.now }
-    ensures same { words_from s.now at ≡ words_from s.now result }
-    ensures kept { sound (letters_from Text s.now at) ≡ sound (letters_from Text s.now result) }
-    ensures ink { result < length s.now → inked (letters_from Text s.now result) ≡ true }
-{
-    let mut i = at;
-    while let Some(letter) = next_letter(Kind::Text, s, i) {
-        if !is_white(letter.glyph) {
-            return i;
-        }
-        i = letter.next;
-    }
-    i
+/// The words of a text, in order.
+#[derive(Clone, Copy)]
+pub(crate) struct Words<'f> {
+    bytes: &'f [u8],
+    at: usize,
+    ghost within: { at ≤ length bytes.now },
 }
 
-// The first byte from at on that begins white space, or the end, how many characters stand before it, and whether each is one.
-fn run(s: &[u8], at: usize) -> (usize, usize, bool)
-    requires { at ≤ length s.now }
-    ensures low { at + result.1 ≤ result.0 }
-    ensures high { result.0 ≤ length s.now }
-    ensures wide { result.1 ≤ length (letters_from Text s.now at) }
-    ensures same { words_from s.now at ≡ closed (take result.1 (letters_from Text s.now at)) (words_from s.now result.0) }
-    ensures checked { sound (letters_from Text s.now at) ≡ (result.2 && sound (letters_from Text s.now result.0)) }
-    ensures some { inked (letters_from Text s.now at) ≡ true → 0 < result.1 }
+impl<'f> Words<'f> {
+    pub(crate) fn new(bytes: &'f [u8]) -> Words<'f>
+        ensures bytes { result.bytes.now ≡ bytes.now }
+        ensures at { result.at ≡ 0 }
+    {
+        Words { bytes, at: 0 }
+    }
+
+    // The first byte from here on that begins a character other than white space.
+    fn next_start(&self) -> Option<usize>
+        ensures { MatchOption result ((words_from self.now.bytes.now self.now.at ≡ []) × (sound (letters_from Text self.now.bytes.now self.now.at) ≡ true)) (λ from. Skipped self.now.bytes.now self.now.at from) }
+    {
+        for (at, letter) in Letters::new(Kind::Text, self.bytes, self.at) {
+            if !is_white(letter.glyph) {
+                return Some(at);
+            }
+        }
+        None
+    }
+}
+
+impl<'f> Iterator for Words<'f> {
+    type Item = Word;
+
+    ghost next_gives = { λ s r t. Scans s.bytes.now s.at t.bytes.now t.at r };
+
+    ghost remaining = { λ s. at_most (length s.bytes.now - s.at) };
+
+    fn next(&mut self) -> Option<Word> {
+        let from = self.next_start()?;
+        let word = word_at(self.bytes, from);
+        self.at = word.to;
+        Some(word)
+    }
+}
+
+// The characters from a byte on, up to white space or the end.
+fn word_at(s: &[u8], from: usize) -> Word
+    requires { from ≤ length s.now }
+    ensures from { result.from ≡ from }
+    ensures low { from + result.width ≤ result.to }
+    ensures high { result.to ≤ length s.now }
+    ensures wide { result.width ≤ length (letters_from Text s.now from) }
+    ensures same { words_from s.now from ≡ closed (take result.width (letters_from Text s.now from)) (words_from s.now result.to) }
+    ensures checked { sound (letters_from Text s.now from) ≡ (result.good && sound (letters_from Text s.now result.to)) }
+    ensures some { inked (letters_from Text s.now from) ≡ true → 0 < result.width }
 {
-    let mut i = at;
-    let mut n = 0;
-    let mut ok = true;
-    while let Some(letter) = next_letter(Kind::Text, s, i) {
+    let mut width = 0;
+    let mut good = true;
+    for (at, letter) in Letters::new(Kind::Text, s, from) {
         if is_white(letter.glyph) {
-            return (i, n, ok);
+            return Word {
+                from,
+                to: at,
+                width,
+                good,
+            };
         }
-        i = letter.next;
-        n += 1;
-        ok &= letter.glyph != 0;
+        width += 1;
+        good &= letter.is_character();
     }
-    (i, n, ok)
-}
-
-/// The first word from at on.
-pub(crate) fn next_word(s: &[u8], at: usize) -> Option<Word>
-    requires { at ≤ length s.now }
-    ensures { MatchOption result ((words_from s.now at ≡ []) × (sound (letters_from Text s.now at) ≡ true)) (λ x. Found s.now at x.from x.to x.width × (sound (letters_from Text s.now at) ≡ (x.good && sound (letters_from Text s.now x.to)))) }
-{
-    let from = skip(s, at);
-    if from == s.len() {
-        return None;
-    }
-    let (to, width, good) = run(s, from);
-    Some(Word {
+    Word {
         from,
-        to,
+        to: s.len(),
         width,
         good,
-    })
+    }
 }

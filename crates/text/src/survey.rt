@@ -1,15 +1,32 @@
 // What one reading of a content tells.
-ghost use Rattle.std.specs.Prelude.{◌≡◌, if◌then◌else◌, nat_eq};
+ghost use Rattle.std.specs.Prelude.{◌≡◌, ◌||◌, if◌then◌else◌, Ok, Err, nat_eq, nat_lt};
+ghost use Rattle.fault.specs.Numbers.{fault};
+ghost use Rattle.fault.specs.declared.Reason.TheVariants.{UnfitWidth};
+ghost use Rattle.shelf.specs.Shelves.{widest};
 ghost use Rattle.typeset.specs.Contents.{measured};
 
-/// Whether the bytes are a content's; its widths, its height at the width asked for, and where the line asked for begins.
+use fault::{Fault, Reason};
+use shelf::WIDEST;
+
+/// What the bytes of a content tell: its widths, its height at the width asked for, and where the line asked for begins.
 #[derive(Clone, Copy)]
 pub(crate) struct Survey {
-    pub(crate) good: bool,
     pub(crate) least: u16,
     pub(crate) most: u16,
     pub(crate) high: u16,
     pub(crate) start: usize,
+}
+
+impl Survey {
+    // The height, if the content can be set at width w.
+    pub(crate) fn height_at(&self, w: u16) -> Result<u16, Fault>
+        ensures { result ≡ (if nat_lt w self.now.least || nat_lt widest w then Err (fault UnfitWidth 0) else Ok self.now.high) }
+    {
+        if w < self.least || w > WIDEST {
+            return Err(Fault::new(Reason::UnfitWidth));
+        }
+        Ok(self.high)
+    }
 }
 
 // A width, at least 1 and at most the largest number.

@@ -1,8 +1,7 @@
 -- How lines are filled from word to word.
-use Rattle.std.proofs.Common.{◌≡◌, ℕ, ◌+◌, ◌<◌, ◌≤◌, max, leb, List, [], ◌∷◌, ◌++◌, length, take, drop, set, sym, ap, ◌∙◌, ⊎_elim, arith, length-drop, length-take}
-use Rattle.std.proofs.lemmas.Bool.{cond-true, cond-false, cond_both, le-leb, lt-leb, cases_lt}
-use Rattle.std.proofs.lemmas.List.{take_all, take_more_set}
-use Rattle.letters.proofs.Steps.{letters_none}
+use Rattle.std.proofs.Common.{◌≡◌, ℕ, ◌+◌, ◌<◌, ◌≤◌, max, leb, List, [], ◌∷◌, ◌++◌, length, take, drop, set, sym, ap, ◌∙◌, arith, length-take}
+use Rattle.std.proofs.lemmas.Bool.{cond-true, cond-false, cond_both, le-leb, lt-leb}
+use Rattle.std.proofs.lemmas.List.{take_more_set}
 use Rattle.typeset.proofs.Steps.{front_more}
 use Rattle.typeset.proofs.Onto.{onto_some, length_onto}
 use Rattle.letters.specs.Letters.{letters_from}
@@ -58,18 +57,7 @@ count_breaks w t s at from to n f h =
 pub count_end : (w t : ℕ) (ws : List (List ℕ)) → ws ≡ [] → length (filled w t ws) ≡ 1
 count_end w t ws e = ap (λ vs. length (filled w t vs)) e
 
--- a character is left, so a byte is
-pub byte_left : (s all : List ℕ) (at i : ℕ) → drop i all ≡ letters_from Text s at → i < length all → at < length s
-byte_left s all at i e h =
-    ⊎_elim
-    (λ (p : at < length s). p)
-    (λ (p : length s ≤ at). let l = ap length (e ∙ letters_none Text s at p) in absurd (omega (arith, length-drop i all)))
-    (cases_lt at (length s))
-
 pub write_more : (s all out : List ℕ) (i c next at : ℕ) → drop i all ≡ letters_from Text s at → letters_from Text s at ≡ c ∷ letters_from Text s next → take i out ≡ take i all → i < length out → (drop (i + 1) all ≡ letters_from Text s next) × (take (i + 1) (set out i c) ≡ take (i + 1) all)
 write_more s all out i c next at left step same h =
     let f = front_more i all c (letters_from Text s next) (left ∙ step) in
     (f.1, take_more_set out i c h ∙ ap (λ t. t ++ c ∷ []) same ∙ sym f.2)
-
-pub write_end : (all out : List ℕ) (i n : ℕ) → take i out ≡ take i all → length out ≤ i → length out ≡ n → i ≡ n → out ≡ take n all
-write_end all out i n same h e k = sym (take_all i out h) ∙ same ∙ ap (λ j. take j all) k

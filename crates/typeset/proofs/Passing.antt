@@ -12,13 +12,6 @@ pub record Passing {X : Type 0} (all left : List (List X)) (from : ℕ → List 
   pub begun : r < high → from start ≡ drop r all
 
 module _ {X : Type 0} (all : List (List X)) (from : ℕ → List (List X)) (r : ℕ) where
-  pub passing_none : from 0 ≡ all → Passing all all from r 1 0
-  passing_none e = record {
-    some = omega arith;
-    ahead = λ h. ap (λ n. drop n all) (omega arith);
-    begun = λ h. let z : 0 ≡ r = omega arith in e ∙ ap (λ n. drop n all) z;
-  }
-
   -- more of the line that has begun
   pub passing_onto : (left more : List (List X)) (v : X) (high start : ℕ) → left ≡ onto v more → 0 < length more → Passing all left from r high start → Passing all more from r high start
   passing_onto left more v high start e some p = record {

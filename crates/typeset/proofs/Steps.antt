@@ -1,28 +1,16 @@
 -- How words are found from byte to byte.
-use Rattle.std.proofs.Common.{◌≡◌, ℕ, zero, suc, ◌+◌, ◌<◌, ◌≤◌, Bool, true, false, not, ◌&&◌, eqb, ltb, List, [], ◌∷◌, ◌++◌, length, take, drop, sym, refl, ap, ◌∙◌, ⊎_elim, add-one, arith, length-take}
-use Rattle.std.proofs.lemmas.Bool.{cond-true, cond-false, false≢true, cases_lt, lt-ltb}
+use Rattle.std.proofs.Common.{◌≡◌, ℕ, zero, suc, ◌+◌, ◌<◌, ◌≤◌, Bool, true, false, not, ◌&&◌, eqb, ltb, List, [], ◌∷◌, ◌++◌, length, take, drop, sym, refl, ap, ◌∙◌, add-one, arith, length-take}
+use Rattle.std.proofs.lemmas.Bool.{cond-false}
 use Rattle.std.proofs.lemmas.Bool.Decides.{nat_tests}
 use Rattle.classes.specs.Classes.{white}
 use Rattle.letters.specs.Letters.{letters_from, sound}
 use Rattle.letters.specs.declared.Kind.{Kind}
 use Rattle.letters.specs.declared.Kind.TheVariants.{Text}
 use Rattle.letters.proofs.Steps.{letters_none}
-use Rattle.typeset.specs.Words.{closed, parted, words, words_from, inked, Found}
-
-pub skip_more : (s : List ℕ) (i c next : ℕ) → letters_from Text s i ≡ c ∷ letters_from Text s next → white c ≡ true → words_from s i ≡ words_from s next
-skip_more s i c next step e = ap words step ∙ cond-true (white c) _ _ e
-
-pub ink_here : (s : List ℕ) (i c next : ℕ) → letters_from Text s i ≡ c ∷ letters_from Text s next → white c ≡ false → inked (letters_from Text s i) ≡ true
-ink_here s i c next step e = ap inked step ∙ ap not e
-
-pub no_ink : (s : List ℕ) (i c next : ℕ) → letters_from Text s i ≡ c ∷ letters_from Text s next → white c ≡ true → inked (letters_from Text s i) ≡ true → ⊥
-no_ink s i c next step e f = false≢true (sym (ap inked step ∙ ap not e) ∙ f)
+use Rattle.typeset.specs.Words.{closed, parted, words, words_from, Found}
 
 pub ended : (s : List ℕ) (i : ℕ) → length s ≤ i → words_from s i ≡ []
 ended s i h = ap words (letters_none Text s i h)
-
-pub no_ink_end : (s : List ℕ) (i : ℕ) → length s ≤ i → inked (letters_from Text s i) ≡ true → ⊥
-no_ink_end s i h f = false≢true (sym (ap inked (letters_none Text s i h)) ∙ f)
 
 pub front_suc : (n : ℕ) (xs : List ℕ) (c : ℕ) (rest : List ℕ) → drop n xs ≡ c ∷ rest → (suc n ≤ length xs) × (drop (suc n) xs ≡ rest) × (take (suc n) xs ≡ take n xs ++ c ∷ [])
 front_suc zero [] c rest e = let z : ◌≡◌ {A = ℕ} 0 1 = cc in absurd (omega arith)
@@ -45,9 +33,6 @@ pub record Running (s all : List ℕ) (i n : ℕ) : Type 0 where
   pub left : drop n all ≡ letters_from Text s i
   pub made : parted (take n all) (letters_from Text s i) ≡ words all
 
-pub run_none : (s : List ℕ) (at : ℕ) → Running s (letters_from Text s at) at 0
-run_none s at = record { wide = omega arith; left = refl; made = refl }
-
 pub run_more : (s all : List ℕ) (i n c next : ℕ) → letters_from Text s i ≡ c ∷ letters_from Text s next → white c ≡ false → Running s all i n → Running s all next (n + 1)
 run_more s all i n c next step black r =
     let f = front_more n all c (letters_from Text s next) (r.left ∙ step) in
@@ -58,32 +43,9 @@ run_more s all i n c next step black r =
           ap (λ v. parted v (letters_from Text s next)) f.2 ∙ sym (parted_black (take n all) c (letters_from Text s next) black) ∙ ap (parted (take n all)) (sym step) ∙ r.made;
     }
 
-pub run_white : (s all : List ℕ) (i n c next : ℕ) → letters_from Text s i ≡ c ∷ letters_from Text s next → white c ≡ true → Running s all i n → words all ≡ closed (take n all) (words_from s i)
-run_white s all i n c next step e r =
-    sym r.made ∙ ap (parted (take n all)) step ∙ parted_white (take n all) c (letters_from Text s next) e ∙ ap (λ cs. closed (take n all) (words cs)) (sym step)
-
-pub run_end : (s all : List ℕ) (i n : ℕ) → length s ≤ i → Running s all i n → words all ≡ closed (take n all) (words_from s i)
-run_end s all i n h r =
-    let t = letters_none Text s i h in
-    sym r.made ∙ ap (parted (take n all)) t ∙ ap (λ cs. closed (take n all) (words cs)) (sym t)
-
 pub closed_some : (v : List ℕ) (ws : List (List ℕ)) → 0 < length v → closed v ws ≡ v ∷ ws
 closed_some [] ws h = absurd (omega arith)
 closed_some (c ∷ v) ws h = refl
-
-pub some_white : (s : List ℕ) (at i n c next : ℕ) → (n ≡ 0 → i ≡ at) → letters_from Text s i ≡ c ∷ letters_from Text s next → white c ≡ true → inked (letters_from Text s at) ≡ true → 0 < n
-some_white s at i n c next same step e ink =
-    ⊎_elim
-    (λ (h : 0 < n). h)
-    (λ (h : n ≤ 0). absurd (no_ink s i c next step e (ap (λ k. inked (letters_from Text s k)) (same (omega arith)) ∙ ink)))
-    (cases_lt 0 n)
-
-pub some_end : (s : List ℕ) (at i n : ℕ) → (n ≡ 0 → i ≡ at) → length s ≤ i → inked (letters_from Text s at) ≡ true → 0 < n
-some_end s at i n same h ink =
-    ⊎_elim
-    (λ (h : 0 < n). h)
-    (λ (k : n ≤ 0). absurd (no_ink_end s i h (ap (λ k. inked (letters_from Text s k)) (same (omega arith)) ∙ ink)))
-    (cases_lt 0 n)
 
 pub found : (s : List ℕ) (at from to n : ℕ) → at ≤ from → words_from s at ≡ words_from s from → from + n ≤ to → to ≤ length s → n ≤ length (letters_from Text s from) → words_from s from ≡ closed (take n (letters_from Text s from)) (words_from s to) → 0 < n → Found s at from to n
 found s at from to n low same long high wide all some =
@@ -94,12 +56,6 @@ found s at from to n low same long high wide all some =
       wide = wide;
       first = same ∙ all ∙ closed_some (take n (letters_from Text s from)) (words_from s to) (omega (arith, length-take n (letters_from Text s from)));
     }
-
-pub sound_white : (s : List ℕ) (i c next : ℕ) → letters_from Text s i ≡ c ∷ letters_from Text s next → white c ≡ true → sound (letters_from Text s i) ≡ sound (letters_from Text s next)
-sound_white s i c next step e = ap sound step ∙ ap (λ b. b && sound (letters_from Text s next)) (lt-ltb 0 c (grind (arith, nat_tests)))
-
-pub sound_end : (s : List ℕ) (i : ℕ) → length s ≤ i → sound (letters_from Text s i) ≡ true
-sound_end s i h = ap sound (letters_none Text s i h)
 
 pub and_shift : (a b c : Bool) → a && (b && c) ≡ (a && b) && c
 and_shift true b c = refl

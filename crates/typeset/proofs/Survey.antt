@@ -10,7 +10,7 @@ use Rattle.typeset.specs.Contents.{measured, Surveyed}
 use Rattle.typeset.proofs.Steps.{and_shift, and_true}
 use Rattle.typeset.proofs.Filling.{word_at, longest_found, places_found, count_fits, count_breaks, count_end, fits_found, breaks_found, filled_some}
 use Rattle.typeset.proofs.Laws.{length_spaced}
-use Rattle.typeset.proofs.Passing.{Passing, passing_none, passing_onto, passing_other, passing_here, first_drop}
+use Rattle.typeset.proofs.Passing.{Passing, passing_onto, passing_other, passing_here, first_drop}
 use Rattle.typeset.proofs.Settable.{spaced_at}
 
 -- the words before the byte at were read: what they tell together with the words still to come is what all words tell
@@ -26,21 +26,6 @@ pub record Counting (s : List ℕ) (w r at : ℕ) (good : Bool) (least most high
   pub high_so : high + length (filled w taken (words_from s at)) ≡ 1 + length (lines w (words_from s 0))
   pub start_small : longest (words_from s start) ≤ longest (words_from s 0)
   pub passing : longest (words_from s 0) ≤ w → Passing (lines w (words_from s 0)) (filled w taken (words_from s at)) (λ i. lines w (words_from s i)) r high start
-
-pub counting_none : (s : List ℕ) (w r : ℕ) → Counting s w r 0 true 0 0 1 0 0
-counting_none s w r = record {
-  inside = omega arith;
-  most_low = omega arith;
-  high_low = omega arith;
-  taken_low = omega arith;
-  start_low = omega arith;
-  good_so = refl;
-  least_so = omega arith;
-  most_so = omega arith;
-  high_so = omega arith;
-  start_small = omega arith;
-  passing = λ _. passing_none (lines w (words_from s 0)) (λ i. lines w (words_from s i)) r refl;
-}
 
 -- the word that was found is read
 abbrev pub wider : ℕ → ℕ → ℕ
@@ -69,8 +54,9 @@ module _ (s : List ℕ) (w r at from to n : ℕ) (ok good : Bool) (least most hi
         passing = λ small. passing_onto _ _ r _ (filled w (taken + (n + 1)) (words_from s to)) (word_at s from n) high start (fits_found w taken s at from to n f h) (filled_some w (taken + (n + 1)) (words_from s to)) (c.passing small);
       }
 
-  passed : w < taken + n → longest (words_from s 0) ≤ w → Passing (lines w (words_from s 0)) (onto (word_at s from n) (filled w (n + 1) (words_from s to))) (λ i. lines w (words_from s i)) r (high + 1) (cond (eqb high r) at start)
-  passed h small =
+  -- the first of the words from at on is the first from the byte here on, too
+  passed : (here : ℕ) → words_from s here ≡ words_from s at → w < taken + n → longest (words_from s 0) ≤ w → Passing (lines w (words_from s 0)) (onto (word_at s from n) (filled w (n + 1) (words_from s to))) (λ i. lines w (words_from s i)) r (high + 1) (cond (eqb high r) here start)
+  passed here same h small =
       let all = lines w (words_from s 0) in
       let begins : ℕ → List (List (List ℕ)) = λ i. lines w (words_from s i) in
       let left = filled w taken (words_from s at) in
@@ -78,13 +64,13 @@ module _ (s : List ℕ) (w r at from to n : ℕ) (ok good : Bool) (least most hi
       let broken : left ≡ [] ∷ more = breaks_found w taken s at from to n f h in
       let fits : 0 + n ≤ w = omega (arith, longest_found s at from to n f, c.least_so) in
       let z : 0 + (n + 1) ≡ n + 1 = omega arith in
-      let here : begins at ≡ more = fits_found w 0 s at from to n f fits ∙ ap (λ k. onto (word_at s from n) (filled w k (words_from s to))) z in
-      cond_both (eqb high r) at start (λ x. Passing all more begins r (high + 1) x)
-      (λ t. passing_here all begins r left more [] high start at broken (eqb-true high r t) here (c.passing small))
+      let begun : begins here ≡ more = ap (lines w) same ∙ fits_found w 0 s at from to n f fits ∙ ap (λ k. onto (word_at s from n) (filled w k (words_from s to))) z in
+      cond_both (eqb high r) here start (λ x. Passing all more begins r (high + 1) x)
+      (λ t. passing_here all begins r left more [] high start here broken (eqb-true high r t) begun (c.passing small))
       (λ t. passing_other all begins r left more [] high start broken (eqb-false high r t) (c.passing small))
 
-  pub counting_breaks : (start2 : ℕ) → start2 ≡ cond (eqb high r) at start → w < taken + n → Counting s w r to (good && ok) least2 most2 (high + 1) (n + 1) start2
-  counting_breaks start2 es h =
+  pub counting_breaks : (here start2 : ℕ) → here ≤ length s → words_from s here ≡ words_from s at → start2 ≡ cond (eqb high r) here start → w < taken + n → Counting s w r to (good && ok) least2 most2 (high + 1) (n + 1) start2
+  counting_breaks here start2 low same es h =
       let long = longest_found s at from to n f in
       let wide = places_found s at from to n f in
       let more = count_breaks w taken s at from to n f h in
@@ -93,13 +79,13 @@ module _ (s : List ℕ) (w r at from to n : ℕ) (ok good : Bool) (least most hi
         most_low = omega arith;
         high_low = omega (arith, f.low, f.some, c.high_low);
         taken_low = omega (arith, f.low, c.taken_low);
-        start_low = subst (λ x. x ≤ length s) (sym es) (cond_both (eqb high r) at start (λ x. x ≤ length s) (λ _. c.inside) (λ _. c.start_low));
+        start_low = subst (λ x. x ≤ length s) (sym es) (cond_both (eqb high r) here start (λ x. x ≤ length s) (λ _. low) (λ _. c.start_low));
         good_so = good_more;
         least_so = omega (arith, c.least_so);
         most_so = omega (arith, c.most_so, c.most_low);
         high_so = omega (arith, c.high_so);
-        start_small = subst (λ x. longest (words_from s x) ≤ longest (words_from s 0)) (sym es) (cond_both (eqb high r) at start (λ x. longest (words_from s x) ≤ longest (words_from s 0)) (λ _. omega (arith, c.least_so)) (λ _. c.start_small));
-        passing = λ small. passing_onto _ _ r _ (filled w (n + 1) (words_from s to)) (word_at s from n) (high + 1) start2 refl (filled_some w (n + 1) (words_from s to)) (subst (λ x. Passing (lines w (words_from s 0)) (onto (word_at s from n) (filled w (n + 1) (words_from s to))) (λ i. lines w (words_from s i)) r (high + 1) x) (sym es) (passed h small));
+        start_small = subst (λ x. longest (words_from s x) ≤ longest (words_from s 0)) (sym es) (cond_both (eqb high r) here start (λ x. longest (words_from s x) ≤ longest (words_from s 0)) (λ _. omega (arith, c.least_so, ap longest same)) (λ _. c.start_small));
+        passing = λ small. passing_onto _ _ r _ (filled w (n + 1) (words_from s to)) (word_at s from n) (high + 1) start2 refl (filled_some w (n + 1) (words_from s to)) (subst (λ x. Passing (lines w (words_from s 0)) (onto (word_at s from n) (filled w (n + 1) (words_from s to))) (λ i. lines w (words_from s i)) r (high + 1) x) (sym es) (passed here same h small));
       }
 
 -- with no word left, what was counted is what the text tells

@@ -1,18 +1,18 @@
 -- What is known of a block while its characters are read one after the other, and at the end.
-use Rattle.std.proofs.Common.{◌≡◌, ℕ, ◌+◌, ◌-◌, ◌<◌, ◌≤◌, min, max, Bool, true, cond, not, ◌&&◌, eqb, List, [], ◌∷◌, ◌++◌, length, take, drop, set, replicate, sym, refl, ap, ◌∙◌, subst, arith, length-append, length-take}
-use Rattle.std.proofs.lemmas.List.{take-append-drop, take_more_set, append-nil, append_assoc, drop-set-lt, drop-drop, drop-replicate}
+use Rattle.std.proofs.Common.{◌≡◌, ℕ, ◌+◌, ◌-◌, ◌<◌, ◌≤◌, min, max, Bool, true, cond, not, ◌&&◌, eqb, List, [], ◌∷◌, ◌++◌, length, take, drop, set, replicate, sym, refl, ap, ◌∙◌, subst, arith}
+use Rattle.std.proofs.lemmas.List.{take_more_set, append_assoc, drop-set-lt, drop-drop, drop-replicate}
 use Rattle.std.proofs.lemmas.Bool.{cond_both, eqb-true, eqb-false, ne_eqb}
 use Rattle.letters.specs.Letters.{letters_from, sound, Stepped}
 use Rattle.letters.specs.declared.Kind.TheVariants.{Block}
 use Rattle.letters.proofs.Steps.{letters_none}
 use Rattle.typeset.specs.Words.{longest}
-use Rattle.typeset.specs.Lines.{onto, first, blank_filled}
+use Rattle.typeset.specs.Lines.{onto, first}
 use Rattle.typeset.specs.Rows.{rows_from}
 use Rattle.typeset.specs.Contents.{measured, Surveyed}
 use Rattle.typeset.proofs.Onto.{length_onto, first_onto}
 use Rattle.typeset.proofs.Steps.{sound_more, and_true}
-use Rattle.typeset.proofs.Rows.{rows_some, rows_break, rows_keep, rows_end, longest_after, longest_whole, longest_onto, longest_drop, longest_at}
-use Rattle.typeset.proofs.Passing.{Passing, passing_none, passing_onto, passing_other, passing_here, first_drop}
+use Rattle.typeset.proofs.Rows.{rows_some, rows_break, rows_keep, rows_end, longest_after, longest_whole, longest_onto, longest_drop}
+use Rattle.typeset.proofs.Passing.{Passing, passing_onto, passing_other, passing_here, first_drop}
 
 -- the characters before the byte at were read: what they tell together with those still to come is what all tell
 pub record Tallied (s : List ℕ) (r at : ℕ) (good : Bool) (least width high start : ℕ) : Type 0 where
@@ -24,18 +24,6 @@ pub record Tallied (s : List ℕ) (r at : ℕ) (good : Bool) (least width high s
   pub least_so : max least (longest_after width (rows_from s at)) ≡ longest (rows_from s 0)
   pub high_so : high + length (rows_from s at) ≡ 1 + length (rows_from s 0)
   pub passing : Passing (rows_from s 0) (rows_from s at) (rows_from s) r high start
-
-pub tallied_none : (s : List ℕ) (r : ℕ) → Tallied s r 0 true 0 0 1 0
-tallied_none s r = record {
-  inside = omega arith;
-  width_low = omega arith;
-  high_low = omega arith;
-  start_low = omega arith;
-  good_so = refl;
-  least_so = omega (arith, longest_whole (rows_from s 0));
-  high_so = omega arith;
-  passing = passing_none (rows_from s 0) (rows_from s) r refl;
-}
 
 module _ (s : List ℕ) (r at c next : ℕ) (good : Bool) (least width high start : ℕ) (p : Stepped Block s at c next) (t : Tallied s r at good least width high start) where
   -- a character of the line
@@ -102,9 +90,6 @@ pub record Writing (s row out : List ℕ) (n at i : ℕ) : Type 0 where
   pub done : take i out ++ first (rows_from s at) ≡ row
   pub blank : drop i out ≡ replicate (n - i) 32
 
-pub writing_none : (s out : List ℕ) (n from : ℕ) → out ≡ replicate n 32 → Writing s (first (rows_from s from)) out n from 0
-writing_none s out n from e = record { done = refl; blank = e ∙ ap (λ k. replicate k 32) (omega arith) }
-
 drop_more_set : (i : ℕ) (xs : List ℕ) (x n v : ℕ) → drop i xs ≡ replicate (n - i) v → drop (i + 1) (set xs i x) ≡ replicate (n - (i + 1)) v
 drop_more_set i xs x n v e =
     let lt : i < i + 1 = omega arith in
@@ -119,20 +104,6 @@ writing_more s row out n at i c next h step ne w = record {
   blank = drop_more_set i out c n 32 w.blank;
 }
 
--- where the line has no more characters
-pub writing_all : (s row out : List ℕ) (n at i : ℕ) → i ≤ n → length out ≡ n → first (rows_from s at) ≡ [] → Writing s row out n at i → out ≡ blank_filled n row
-writing_all s row out n at i h len e w =
-    let same : take i out ≡ row = sym (append-nil (take i out)) ∙ ap (λ xs. take i out ++ xs) (sym e) ∙ w.done in
-    let long : length row ≡ i = sym (ap length same) ∙ omega (arith, length-take i out) in
-    sym (take-append-drop i out) ∙ ap (λ xs. xs ++ drop i out) same ∙ ap (λ xs. row ++ xs) (w.blank ∙ ap (λ k. replicate (n - k) 32) (sym long))
-
 none_left : (xs : List ℕ) → length xs ≡ 0 → xs ≡ []
 none_left [] e = refl
 none_left (x ∷ xs) e = absurd (omega arith)
-
--- where out is full, since the line is no longer
-pub writing_full : (s out : List ℕ) (n from at i : ℕ) → longest (rows_from s from) ≤ n → length out ≡ n → i ≡ n → Writing s (first (rows_from s from)) out n at i → out ≡ blank_filled n (first (rows_from s from))
-writing_full s out n from at i small len full w =
-    let long : length (take i out) + length (first (rows_from s at)) ≡ length (first (rows_from s from)) = sym (length-append (take i out) (first (rows_from s at))) ∙ ap length w.done in
-    let none : length (first (rows_from s at)) ≡ 0 = omega (arith, longest_at 0 (rows_from s from), length-take i out) in
-    writing_all s (first (rows_from s from)) out n at i (omega arith) len (none_left (first (rows_from s at)) none) w

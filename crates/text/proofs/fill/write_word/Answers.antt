@@ -1,16 +1,14 @@
-use Rattle.std.proofs.Common.{arith}
-use Rattle.letters.specs.Letters.{letters_from}
+use Rattle.std.proofs.Common.{sym, ap, ◌∙◌, arith}
+use Rattle.letters.specs.Letters.{letters, letters_from}
 use Rattle.letters.specs.declared.Kind.TheVariants.{Text}
-use Rattle.typeset.proofs.Filling.{byte_left, write_more, write_end}
+use Rattle.letters.proofs.Walking.{moved}
+use Rattle.typeset.proofs.Filling.{write_more}
 use Rattle.text.proofs.fill.write_word.Goals as goal
-
-pub returns-in_default : goal.returns-in_default
-returns-in_default c =
-    absurd (omega (arith, c.in_default.ensures.steps, byte_left c.args.s.now (letters_from Text c.args.s.now c.args.from) c.loop-x.at c.loop-x.x-index c.loop-x.invariant.0 (omega arith)))
 
 pub loop-x-preserved : goal.loop-x-preserved
 loop-x-preserved c =
-    write_more c.args.s.now (letters_from Text c.args.s.now c.args.from) c.loop-x.out c.loop-x.x-index c.in-Some.letter.glyph c.in-Some.letter.next c.loop-x.at c.loop-x.invariant.0 c.in-Some.ensures.steps.step c.loop-x.invariant.1 (omega arith)
-
-pub returns : goal.returns
-returns c = write_end (letters_from Text c.args.s.now c.args.from) c.loop-x.out c.loop-x.x-index _ c.loop-x.invariant.1 (omega arith) (omega arith) (omega arith)
+    let i = c.loop-x.invariant in
+    let l = c.in-Some.letter in
+    let m = moved Text _ _ c.args.s.now _ _ _ _ _ i.kind i.bytes c.in-Some.ensures.steps in
+    let p = write_more c.args.s.now (letters Text c.args.s.now) c.loop-x.out c.loop-x.x-index l.glyph l.next c.loop-x.letters.at i.left m.standing.stepped.step i.written (omega arith) in
+    record { kind = m.kind_same; bytes = m.bytes_same; left = p.0 ∙ ap (letters_from Text c.args.s.now) (sym m.standing.next_is); written = p.1 }
