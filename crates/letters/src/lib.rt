@@ -1,7 +1,7 @@
 // The characters that the bytes of a content stand for.
 #![tactic(auto)]
 
-ghost use Rattle.std.specs.Prelude.{◌≡◌, ◌-◌, ◌≤◌, not, length, Some, None, ◌==◌, MatchOption};
+ghost use Rattle.std.specs.Prelude.{◌≡◌, ◌-◌, ◌≤◌, min, not, length, Some, None, ◌==◌, MatchOption};
 ghost use Rattle.std.specs.Iterator.{at_most};
 ghost use Rattle.classes.specs.Classes.{white};
 ghost use Rattle.letters.specs.Letters.{begins, plain, allowed, letter_of, letter_at, Stepped};
@@ -121,14 +121,17 @@ pub struct Letters<'f> {
 }
 
 impl<'f> Letters<'f> {
-    /// The characters from byte `at` on.
+    /// The characters from byte `at` on, and none past the last byte.
     pub fn new(kind: Kind, bytes: &'f [u8], at: usize) -> Letters<'f>
-        requires { at ≤ length bytes.now }
         ensures kind { result.kind ≡ kind }
         ensures bytes { result.bytes.now ≡ bytes.now }
-        ensures at { result.at ≡ at }
+        ensures at { result.at ≡ min at (length bytes.now) }
     {
-        Letters { kind, bytes, at }
+        Letters {
+            kind,
+            bytes,
+            at: at.min(bytes.len()),
+        }
     }
 }
 

@@ -1,4 +1,4 @@
-use Rattle.std.proofs.Common.{◌≡◌, sym, ap, ◌∙◌, subst, arith}
+use Rattle.std.proofs.Common.{◌≡◌, ℕ, min, length, sym, ap, ◌∙◌, subst, arith}
 use Rattle.std.proofs.lemmas.Bool.Decides.{nat_tests}
 use Rattle.letters.specs.Spelling.{nothing}
 use Rattle.letters.proofs.Judging.{SpelledTo, verdict_from, verdict_more, spelled_more, letter_parts}
@@ -7,7 +7,8 @@ use Rattle.letters.proofs.verify.Goals as goal
 
 pub loop-at-init : goal.loop-at-init
 loop-at-init c =
-    let start : 0 ≡ c.into_iter-at-iterator.result.at = cc in
+    let first : ◌≡◌ {A = ℕ} 0 (min 0 (length c.args.s.now)) = omega arith in
+    let start : 0 ≡ c.into_iter-at-iterator.result.at = first ∙ sym c.new-at-items.ensures.at ∙ cc in
     record { can = tt; ends = tt; kind = cc; bytes = cc; value = ap (verdict_from c.args.kind c.args.s.now) (sym start); spelled = subst (SpelledTo c.args.kind c.args.s.now) start nothing }
 
 pub loop-at-preserved : goal.loop-at-preserved
