@@ -1,5 +1,5 @@
 -- The characters that the bytes of a content stand for.
-use Rattle.std.specs.Prelude.{◌≡◌, ℕ, zero, suc, ◌+◌, ◌<◌, ◌≤◌, Bool, true, cond, not, ◌&&◌, ◌||◌, List, [], ◌∷◌, length, take, drop, Some, None, codes, Option, ◌==◌, nat_lt}
+use Rattle.std.specs.Prelude.{◌≡◌, ℕ, zero, suc, ◌+◌, ◌<◌, ◌≤◌, Bool, true, if◌then◌else◌, not, ◌&&◌, ◌||◌, List, [], ◌∷◌, length, take, drop, Some, None, codes, Option, ◌==◌, nat_lt}
 use Rattle.std.specs.Str.{bytes_eq}
 use Rattle.classes.specs.Classes.{white, from_to}
 use Rattle.letters.specs.declared.Kind.{Kind}
@@ -26,16 +26,16 @@ begins p bs = bytes_eq p (take (length p) bs)
 module _ (kind : Kind) where
   abbrev pub itself : List ℕ → ℕ × ℕ
   itself [] = (0, 0)
-  itself (b ∷ bs) = cond (plain kind b) (b, 0) (0, 0)
+  itself (b ∷ bs) = if plain kind b then (b, 0) else (0, 0)
 
   -- the character that the bytes begin with, and how many bytes more than one it takes; the character 0 where they begin with none
   abbrev pub letter_of : List ℕ → ℕ × ℕ
   letter_of bs =
-      cond (begins (codes "&lt;") bs) (60, 3)
-      (cond (begins (codes "&gt;") bs) (62, 3)
-      (cond (begins (codes "&amp;") bs) (38, 4)
-      (cond (begins (codes "&quot;") bs) (34, 5)
-      (itself bs))))
+      if begins (codes "&lt;") bs then (60, 3)
+      else if begins (codes "&gt;") bs then (62, 3)
+      else if begins (codes "&amp;") bs then (38, 4)
+      else if begins (codes "&quot;") bs then (34, 5)
+      else itself bs
 
   -- the characters of the bytes after the first n
   abbrev pub letters_after : ℕ → List ℕ → List ℕ
@@ -54,7 +54,7 @@ module _ (kind : Kind) where
   -- the character at a byte
   abbrev pub letter_at : List ℕ → ℕ → Option Letter
   letter_at s at =
-      cond (nat_lt at (length s)) (Some (record { glyph = (letter_of (drop at s)).0; next = at + 1 + (letter_of (drop at s)).1 })) None
+      if nat_lt at (length s) then Some (record { glyph = (letter_of (drop at s)).0; next = at + 1 + (letter_of (drop at s)).1 }) else None
 
   -- c is the character at the byte at, and the next one begins at the byte next
   pub record Stepped (s : List ℕ) (at c next : ℕ) : Type 0 where

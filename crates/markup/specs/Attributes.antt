@@ -1,5 +1,5 @@
 -- Attributes: white space, a name, "=", and 1 to 5 digits, bare or in double quotes; no name twice.
-use Rattle.std.specs.Prelude.{ℕ, zero, suc, ◌+◌, ◌-◌, Bool, cond, ◌&&◌, List, [], ◌∷◌, length, take, drop, replicate, is_some, Some, None, codes, Option, ◌==◌, nat_le, nat_lt, slice_index, slice_index_or, slice_set}
+use Rattle.std.specs.Prelude.{ℕ, zero, suc, ◌+◌, ◌-◌, Bool, if◌then◌else◌, ◌&&◌, List, [], ◌∷◌, length, take, drop, replicate, is_some, Some, None, codes, Option, ◌==◌, nat_le, nat_lt, slice_index, slice_index_or, slice_set}
 use Rattle.classes.specs.Classes.{white}
 use Rattle.markup.specs.declared.record.Attribute.{Attribute}
 use Rattle.markup.specs.declared.record.Attribute.TheVariants.{Cols, Cellspacing, Width, Cellpadding, Border, Colspan, Rowspan}
@@ -8,14 +8,14 @@ use Rattle.markup.specs.Spans.{letter, digit, front, spells, number}
 -- the attribute of that name
 abbrev pub attribute_of : List ℕ → Option Attribute
 attribute_of bs =
-    cond (spells bs (codes "cols")) (Some Cols)
-    (cond (spells bs (codes "cellspacing")) (Some Cellspacing)
-    (cond (spells bs (codes "width")) (Some Width)
-    (cond (spells bs (codes "cellpadding")) (Some Cellpadding)
-    (cond (spells bs (codes "border")) (Some Border)
-    (cond (spells bs (codes "colspan")) (Some Colspan)
-    (cond (spells bs (codes "rowspan")) (Some Rowspan)
-    None))))))
+    if spells bs (codes "cols") then Some Cols
+    else if spells bs (codes "cellspacing") then Some Cellspacing
+    else if spells bs (codes "width") then Some Width
+    else if spells bs (codes "cellpadding") then Some Cellpadding
+    else if spells bs (codes "border") then Some Border
+    else if spells bs (codes "colspan") then Some Colspan
+    else if spells bs (codes "rowspan") then Some Rowspan
+    else None
 
 -- the place of an attribute among the values
 abbrev pub index_of : Attribute → ℕ
@@ -41,14 +41,14 @@ value_in vs a = slice_index_or vs (index_of a) None
 
 -- 1 to 5 digits: what they come to, and how many bytes they take with what stands around them
 abbrev pub bare_value : List ℕ → ℕ → Option (ℕ × ℕ)
-bare_value bs n = cond (nat_le 1 n && nat_le n 5) (Some (number 0 (take n bs), n)) None
+bare_value bs n = if nat_le 1 n && nat_le n 5 then Some (number 0 (take n bs), n) else None
 
 abbrev pub quoted_value : List ℕ → ℕ → Option (ℕ × ℕ)
-quoted_value bs n = cond ((nat_le 1 n && nat_le n 5) && (nat_lt n (length bs) && slice_index bs n == 34)) (Some (number 0 (take n bs), n + 2)) None
+quoted_value bs n = if (nat_le 1 n && nat_le n 5) && (nat_lt n (length bs) && slice_index bs n == 34) then Some (number 0 (take n bs), n + 2) else None
 
 abbrev pub value_of : List ℕ → Option (ℕ × ℕ)
 value_of [] = None
-value_of (b ∷ bs) = cond (b == 34) (quoted_value bs (front digit bs)) (bare_value (b ∷ bs) (front digit (b ∷ bs)))
+value_of (b ∷ bs) = if b == 34 then quoted_value bs (front digit bs) else bare_value (b ∷ bs) (front digit (b ∷ bs))
 
 -- an attribute with its value, and how many bytes it takes
 pub record Given : Type 0 where
@@ -63,7 +63,7 @@ joined (Some a) (Some p) n = Some (record { name = a; value = p.0; size = n + 1 
 
 -- a name of n letters, "=", and a value
 abbrev pub given_at : List ℕ → ℕ → Option Given
-given_at bs n = cond (nat_lt n (length bs) && slice_index bs n == 61) (joined (attribute_of (take n bs)) (value_of (drop (n + 1) bs)) n) None
+given_at bs n = if nat_lt n (length bs) && slice_index bs n == 61 then joined (attribute_of (take n bs)) (value_of (drop (n + 1) bs)) n else None
 
 abbrev pub given_of : List ℕ → Option Given
 given_of bs = given_at bs (front letter bs)
@@ -81,7 +81,7 @@ piece_one None w = Bad
 piece_one (Some g) w = One g (w + g.size)
 
 abbrev pub piece_at : List ℕ → ℕ → Piece
-piece_at bs w = cond (w == 0) Bad (cond (w == length bs) Last (piece_one (given_of (drop w bs)) w))
+piece_at bs w = if w == 0 then Bad else if w == length bs then Last else piece_one (given_of (drop w bs)) w
 
 -- white space is owed before each attribute, and may stand at the end
 abbrev pub piece_of : List ℕ → Piece
@@ -90,7 +90,7 @@ piece_of bs = piece_at bs (front white bs)
 -- `may` tells which attributes the tag may have
 module _ (may : Attribute → Bool) where
   abbrev pub with_given : Values → Given → Option Values
-  with_given vs g = cond (may g.name) (cond (is_some (value_in vs g.name)) None (Some (slice_set vs (index_of g.name) (Some g.value)))) None
+  with_given vs g = if may g.name then (if is_some (value_in vs g.name) then None else Some (slice_set vs (index_of g.name) (Some g.value))) else None
 
   abbrev pub after_given : Option Values → (Values → Option Values) → Option Values
   after_given None f = None

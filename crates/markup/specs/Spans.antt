@@ -1,5 +1,5 @@
 -- Bytes that come first, letters in either case, and numbers.
-use Rattle.std.specs.Prelude.{ℕ, suc, ◌+◌, ◌-◌, ◌*◌, Bool, true, false, cond, ◌&&◌, ◌||◌, List, [], ◌∷◌, ◌==◌}
+use Rattle.std.specs.Prelude.{ℕ, suc, ◌+◌, ◌-◌, ◌*◌, Bool, true, false, if◌then◌else◌, ◌&&◌, ◌||◌, List, [], ◌∷◌, ◌==◌}
 use Rattle.classes.specs.Classes.{from_to}
 
 abbrev pub letter : ℕ → Bool
@@ -11,11 +11,11 @@ digit b = from_to 48 57 b
 -- how many bytes that pass come first
 abbrev pub front : (ℕ → Bool) → List ℕ → ℕ
 front p [] = 0
-front p (b ∷ bs) = cond (p b) (suc (front p bs)) 0
+front p (b ∷ bs) = if p b then suc (front p bs) else 0
 
 -- a letter as a small one
 abbrev pub lower : ℕ → ℕ
-lower b = cond (from_to 65 90 b) (b + 32) b
+lower b = if from_to 65 90 b then b + 32 else b
 
 -- the bytes spell the small letters, in either case
 abbrev pub spells : List ℕ → List ℕ → Bool

@@ -1,5 +1,5 @@
 -- Tags: "<" or "</", a name, attributes, white space if any, and the first ">".
-use Rattle.std.specs.Prelude.{ℕ, suc, Bool, true, false, cond, ◌&&◌, List, [], ◌∷◌, length, take, drop, Some, None, Ok, Err, codes, Option, Result, ◌==◌}
+use Rattle.std.specs.Prelude.{ℕ, suc, Bool, true, false, if◌then◌else◌, ◌&&◌, List, [], ◌∷◌, length, take, drop, Some, None, Ok, Err, codes, Option, Result, ◌==◌}
 use Rattle.std.specs.Option.{unwrap_or}
 use Rattle.fault.specs.declared.Reason.{Reason}
 use Rattle.fault.specs.declared.Reason.TheVariants.{ByteNotAllowed, Malformed}
@@ -16,13 +16,13 @@ use Rattle.markup.specs.Attributes.{Values, no_values, value_in, values_of}
 
 abbrev pub name_of : List ℕ → Option Name
 name_of bs =
-    cond (spells bs (codes "table")) (Some name.Table)
-    (cond (spells bs (codes "col")) (Some name.Column)
-    (cond (spells bs (codes "tr")) (Some name.Row)
-    (cond (spells bs (codes "td")) (Some name.Data)
-    (cond (spells bs (codes "th")) (Some name.Head)
-    (cond (spells bs (codes "pre")) (Some name.Block)
-    None)))))
+    if spells bs (codes "table") then Some name.Table
+    else if spells bs (codes "col") then Some name.Column
+    else if spells bs (codes "tr") then Some name.Row
+    else if spells bs (codes "td") then Some name.Data
+    else if spells bs (codes "th") then Some name.Head
+    else if spells bs (codes "pre") then Some name.Block
+    else None
 
 -- COLS and CELLSPACING stand on every TABLE; WIDTH, CELLPADDING and BORDER only where no table is open
 abbrev pub table_may : Bool → Attribute → Bool
@@ -114,14 +114,14 @@ named_ending bs = ending_of (drop (front letter bs) bs) (name_of (take (front le
 -- what stands between "<" and ">"
 abbrev pub body_of : Bool → List ℕ → Option Tag
 body_of outermost [] = None
-body_of outermost (b ∷ bs) = cond (b == 47) (named_ending bs) (named_opening outermost (b ∷ bs))
+body_of outermost (b ∷ bs) = if b == 47 then named_ending bs else named_opening outermost (b ∷ bs)
 
 -- ---- the tag after a "<"
 
 -- how many bytes stand before the first ">", or all of them where there is none
 abbrev pub before : List ℕ → ℕ
 before [] = 0
-before (b ∷ bs) = cond (b == 62) 0 (suc (before bs))
+before (b ∷ bs) = if b == 62 then 0 else suc (before bs)
 
 abbrev pub all_allowed : List ℕ → Bool
 all_allowed [] = true
@@ -135,6 +135,6 @@ sized (Some t) n = Ok (t, n)
 -- a byte that is not allowed comes first; then a tag that is cut off, or of another form
 abbrev pub tag_of : Bool → List ℕ → Result (Tag × ℕ) Reason
 tag_of outermost rest =
-    cond (all_allowed (take (before rest) rest))
-    (cond (before rest == length rest) (Err Malformed) (sized (body_of outermost (take (before rest) rest)) (before rest)))
-    (Err ByteNotAllowed)
+    if all_allowed (take (before rest) rest)
+    then (if before rest == length rest then Err Malformed else sized (body_of outermost (take (before rest) rest)) (before rest))
+    else Err ByteNotAllowed

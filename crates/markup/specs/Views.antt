@@ -1,5 +1,5 @@
 -- What the types of the code stand for, and what is left of the bytes once a value is read.
-use Rattle.std.specs.Prelude.{ℕ, Bool, cond, List, length, take, drop, find, Some, None, Ok, Err, Option, Result, ◌==◌}
+use Rattle.std.specs.Prelude.{ℕ, Bool, if◌then◌else◌, List, length, take, drop, find, Some, None, Ok, Err, Option, Result, ◌==◌}
 use Rattle.std.specs.Option.{option_map}
 use Rattle.std.specs.Borrow.{Bor}
 use Rattle.std.specs.Str.{str_eq_ignore_ascii_case}
@@ -43,12 +43,12 @@ given_left bs (Some g) = Some (record { name = g.name; value = g.value }, drop g
 
 -- where a tag ends, if all bytes before are allowed
 abbrev pub closed : List ℕ → Option ℕ
-closed bs = cond (all_allowed (take (before bs) bs)) (Some (before bs)) None
+closed bs = if all_allowed (take (before bs) bs) then Some (before bs) else None
 
 -- a byte that is not allowed, or no end at all
 abbrev pub closed_within : Option ℕ → ℕ → Result ℕ Reason
 closed_within None m = Err ByteNotAllowed
-closed_within (Some n) m = cond (n == m) (Err Malformed) (Ok n)
+closed_within (Some n) m = if n == m then Err Malformed else Ok n
 
 abbrev pub closing : List ℕ → Result ℕ Reason
 closing bs = closed_within (closed bs) (length bs)

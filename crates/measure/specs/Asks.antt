@@ -1,5 +1,5 @@
 -- What the cells of a table ask, as the code has it: the cells, and beside each what it asks.
-use Rattle.std.specs.Prelude.{◌≡◌, ℕ, ◌+◌, max, Bool, true, cond, ◌&&◌, List, [], ◌∷◌, map, length, take, Some, None, Option, ◌==◌, ◌≢◌, nat_le, nat_lt, slice_index_or}
+use Rattle.std.specs.Prelude.{◌≡◌, ℕ, ◌+◌, max, Bool, true, if◌then◌else◌, ◌&&◌, List, [], ◌∷◌, map, length, take, Some, None, Option, ◌==◌, ◌≢◌, nat_le, nat_lt, slice_index_or}
 use Rattle.std.specs.List.{AllByRecursion}
 use Rattle.plan.specs.declared.record.Cell.{Cell}
 use Rattle.plan.specs.declared.record.Column.{Column}
@@ -19,7 +19,7 @@ raised_by a c = record { sizing = c.sizing; least = max c.least a.least; greates
 -- the columns that a cell spans, raised by what it asks: one column to just that, more by shares
 abbrev pub lifted : ℕ → Ask → List Column → List Column
 lifted q a cs =
-    cond (length cs == 1) (map (raised_by a) cs) (meet Greatest q (length cs) a.greatest (meet Least q (length cs) a.least cs))
+    if length cs == 1 then map (raised_by a) cs else meet Greatest q (length cs) a.greatest (meet Least q (length cs) a.least cs)
 
 -- what cell c asks of the columns
 abbrev pub want_of : Cell → Ask → Want
@@ -33,7 +33,7 @@ asks_in t n c = c.table == t && (from_to 1 32 c.across && nat_le (c.column + c.a
 abbrev pub wants : ℕ → ℕ → List Cell → List Ask → List Want
 wants t n [] as' = []
 wants t n (c ∷ cs) [] = []
-wants t n (c ∷ cs) (a ∷ as') = cond (asks_in t n c) (want_of c a ∷ wants t n cs as') (wants t n cs as')
+wants t n (c ∷ cs) (a ∷ as') = if asks_in t n c then (want_of c a ∷ wants t n cs as') else wants t n cs as'
 
 -- what the cells of `a` ask of the n columns of its table
 abbrev pub asks_of : Asking → ℕ → List Want
@@ -44,7 +44,7 @@ no_ask = record { least = 0; greatest = 0 }
 
 -- what cell i asks, if it spans s of the n columns of table t
 abbrev pub asked : ℕ → ℕ → ℕ → ℕ → Cell → List Ask → Option Ask
-asked t n s i c as' = cond (c.across == s && (nat_lt i (length as') && asks_in t n c)) (Some (slice_index_or as' i no_ask)) None
+asked t n s i c as' = if c.across == s && (nat_lt i (length as') && asks_in t n c) then Some (slice_index_or as' i no_ask) else None
 
 -- a cell of any span raises the columns that it spans
 abbrev pub step : ℕ → Want → List Column → List Column

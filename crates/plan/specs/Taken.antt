@@ -1,12 +1,12 @@
 -- Where a span of free columns is found, and what the code keeps to find it quickly.
-use Rattle.std.specs.Prelude.{ℕ, zero, suc, ◌+◌, Bool, true, cond, ◌&&◌, List, replicate, Some, None, Option, nat_le, slice_index, slice_set}
+use Rattle.std.specs.Prelude.{ℕ, zero, suc, ◌+◌, Bool, true, if◌then◌else◌, ◌&&◌, List, replicate, Some, None, Option, nat_le, slice_index, slice_set}
 use Rattle.plan.specs.declared.taken.Taken.{Taken}
 
 module _ (free : ℕ → Bool) where
   -- the first of n columns from j on that is free, or the column after them
   abbrev pub lowest : ℕ → ℕ → ℕ
   lowest j zero = j
-  lowest j (suc n) = cond (free j) j (lowest (suc j) n)
+  lowest j (suc n) = if free j then j else lowest (suc j) n
 
   -- all of n columns from j on are free
   abbrev pub clear : ℕ → ℕ → Bool
@@ -15,7 +15,7 @@ module _ (free : ℕ → Bool) where
 
   -- a span goes to the lowest free column; the columns that it covers must be there and free
   abbrev pub spot : ℕ → ℕ → Option ℕ
-  spot count across = cond (nat_le (lowest 0 count + across) count && clear (lowest 0 count) across) (Some (lowest 0 count)) None
+  spot count across = if nat_le (lowest 0 count + across) count && clear (lowest 0 count) across then Some (lowest 0 count) else None
 
 -- no column is taken
 abbrev pub none_taken : Taken

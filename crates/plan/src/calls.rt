@@ -1,5 +1,5 @@
 // The calls that build a sheet, over its two lists.
-ghost use Rattle.std.specs.Prelude.{◌≡◌, ◌+◌, ◌<◌, ◌≤◌, cond, Ok, Err};
+ghost use Rattle.std.specs.Prelude.{◌≡◌, ◌+◌, ◌<◌, ◌≤◌, if◌then◌else◌, Ok, Err};
 ghost use Rattle.fault.specs.Numbers.{fault};
 ghost use Rattle.fault.specs.declared.Reason.TheVariants.{OutOfRange, Full};
 ghost use Rattle.plan.specs.Blank.{blank_table};
@@ -26,7 +26,7 @@ const MOST_WIDTH: u16 = 1000;
 
 // Declines where every place is used or the limit is reached.
 fn spare_place<T: Copy>(list: &List<T>, limit: usize) -> Result<(), Fault>
-    ensures { result ≡ cond (full limit (held list.now)) (Err (fault Full 0)) (Ok tt) }
+    ensures { result ≡ (if full limit (held list.now) then Err (fault Full 0) else Ok tt) }
 {
     if list.len() >= list.capacity() || list.len() >= limit {
         return Err(Fault::new(Reason::Full));
@@ -36,7 +36,7 @@ fn spare_place<T: Copy>(list: &List<T>, limit: usize) -> Result<(), Fault>
 
 // A table without rows, of 1 to 32 columns and a spacing from 0 to 8.
 fn new_table(count: u8, spacing: u8) -> Result<Table, Fault>
-    ensures { result ≡ cond (table_range count spacing) (Ok (blank_table count spacing)) (Err (fault OutOfRange 0)) }
+    ensures { result ≡ (if table_range count spacing then Ok (blank_table count spacing) else Err (fault OutOfRange 0)) }
 {
     if count < 1 || count as usize > COLUMNS || spacing > MOST_SPACING {
         return Err(Fault::new(Reason::OutOfRange));
