@@ -13,13 +13,19 @@ impl Style for Lines {
     ghost around = { framed };
 
     ghost MOST = { 1 };
+
     ghost CORNER = { 43 };
+
     ghost FLAT = { 45 };
+
     ghost SIDE = { 124 };
 
     const MOST: u8 = 1;
+
     const CORNER: u8 = b'+';
+
     const FLAT: u8 = b'-';
+
     const SIDE: u8 = b'|';
 
     ghost shows = { λ n m. refl };

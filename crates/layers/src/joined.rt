@@ -6,7 +6,8 @@ ghost use Rattle.shelf.proofs.Joined.{joined_lawful};
 use fault::Fault;
 use shelf::Shelf;
 
-/// Number 2k is number k of the first shelf, and 2k + 1 is number k of the second.
+/// Number 2k is number k of the first shelf, and 2k + 1 is number k of the second. The two are of different types, so each query chooses
+/// between them for itself.
 #[derive(Drop)]
 pub struct Joined<A, B> {
     first: A,

@@ -16,13 +16,19 @@ pub trait Style {
     ghost around: { ℕ → Meaning → Meaning };
 
     ghost MOST: { ℕ };
+
     ghost CORNER: { ℕ };
+
     ghost FLAT: { ℕ };
+
     ghost SIDE: { ℕ };
 
     const MOST: u8;
+
     const CORNER: u8;
+
     const FLAT: u8;
+
     const SIDE: u8;
 
     ghost shows: { (n : ℕ) (m : Meaning) → around n m ≡ margined CORNER FLAT SIDE n m };
@@ -106,7 +112,8 @@ impl<S: Shelf, M: Style> Shelf for Margined<S, M> {
             return Ok(());
         }
         spread(out, M::SIDE);
-        self.below.line(k, w - self.both(), r - n, &mut out[from..to])
+        self.below
+            .line(k, w - self.both(), r - n, &mut out[from..to])
     }
 
     ghost lawful = { λ s. M.keeps_lawful s.size (S.Shelf.meaning s.below) (S.Shelf.lawful s.below) };

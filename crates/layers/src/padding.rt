@@ -16,13 +16,19 @@ impl Style for Blanks {
     ghost around = { padded };
 
     ghost MOST = { 8 };
+
     ghost CORNER = { 32 };
+
     ghost FLAT = { 32 };
+
     ghost SIDE = { 32 };
 
     const MOST: u8 = MOST;
+
     const CORNER: u8 = b' ';
+
     const FLAT: u8 = b' ';
+
     const SIDE: u8 = b' ';
 
     ghost shows = { λ n m. refl };

@@ -13,14 +13,14 @@ use classes::{Class, class_of};
 use fault::{Fault, Reason};
 
 /// The two kinds of content that a file holds: words, or lines as they stand.
-#[derive(Clone, Copy)]
+#[derive(Clone, Copy, PartialEq, Eq, Debug)]
 pub enum Kind {
     Text,
     Block,
 }
 
 /// A character, and the byte after its last one. The character 0 stands for a byte that begins none, as in `letters` of the specification.
-#[derive(Clone, Copy)]
+#[derive(Clone, Copy, PartialEq, Eq, Debug)]
 pub struct Letter {
     pub glyph: u8,
     pub next: usize,

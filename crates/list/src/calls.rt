@@ -1,5 +1,5 @@
 // The calls of a list.
-ghost use Rattle.std.specs.Prelude.{◌≡◌, [], length, MatchResult};
+ghost use Rattle.std.specs.Prelude.{◌≡◌, ◌==◌, [], length, MatchResult};
 ghost use Rattle.list.specs.Held.{items, spare, room, Pushed, Declined, Put, Popped};
 ghost use Rattle.std.specs.List.{slice_get};
 
@@ -21,6 +21,13 @@ impl<'a, T: Copy> List<'a, T> {
         ensures { result ≡ length (items self.now) }
     {
         self.len
+    }
+
+    /// Whether there are no items.
+    pub fn is_empty(&self) -> bool
+        ensures { result ≡ (length (items self.now) == 0) }
+    {
+        self.len == 0
     }
 
     /// How many items there is room for in all.

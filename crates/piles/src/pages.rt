@@ -149,7 +149,7 @@ fn check_line_refused<S: Shelf>(
     Ok(())
 }
 
-// The answer is the refusal of that number, and names no place.
+// The answer is the refusal of that number, which is what is printed of it, and names no place.
 pub(crate) fn check_refused<T: Drop>(
     rt: &impl Abort,
     answer: Result<T, Fault>,

@@ -40,8 +40,8 @@ abbrev pub start_tables : Stock Table → ℕ → ℕ → Result (Stock Table) F
 start_tables ts n q =
     if table_range n q
     then (if length ts.items == 0
-      then (if full 64 ts then Err (fault Full 0) else Ok (with_new ts (blank_table n q)))
-      else Err (fault AlreadyStarted 0))
+    then (if full 64 ts then Err (fault Full 0) else Ok (with_new ts (blank_table n q)))
+    else Err (fault AlreadyStarted 0))
     else Err (fault OutOfRange 0)
 
 -- ---- row: the next row of a table begins

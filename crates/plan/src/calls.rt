@@ -49,7 +49,7 @@ pub fn start_table(tables: &mut List<Table>, count: u8, spacing: u8) -> Result<(
     ensures { Changed (start_tables (held tables.old) count spacing) tables.old tables.new result }
 {
     let table = new_table(count, spacing)?;
-    if tables.len() > 0 {
+    if !tables.is_empty() {
         return Err(Fault::new(Reason::AlreadyStarted));
     }
     spare_place(tables, MOST_TABLES)?;

@@ -25,8 +25,8 @@ abbrev pub line_answer : Meaning → ℕ → ℕ → ℕ → ℕ → Result Unit
 line_answer m k w r n =
     if m.has k
     then (if misfits m k w then Err (fault UnfitWidth 0)
-      else if nat_lt r (m.height k w) then (if n == w then Ok tt else Err (fault WrongLineLength 0))
-      else Err (fault PastLastLine 0))
+    else if nat_lt r (m.height k w) then (if n == w then Ok tt else Err (fault WrongLineLength 0))
+    else Err (fault PastLastLine 0))
     else Err (fault NotOnShelf 0)
 
 -- what the slice holds after the answer a: the line, or what it held before

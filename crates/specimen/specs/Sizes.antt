@@ -22,5 +22,5 @@ abbrev pub size_answer : Meaning → Result Size Fault
 size_answer m =
     if m.has 0
     then (if misfits m 0 (set_width m) then Err (fault UnfitWidth 0)
-      else Ok (record { least = m.minimum 0; most = m.maximum 0; width = set_width m; height = m.height 0 (set_width m) }))
+    else Ok (record { least = m.minimum 0; most = m.maximum 0; width = set_width m; height = m.height 0 (set_width m) }))
     else Err (fault NotOnShelf 0)

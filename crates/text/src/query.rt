@@ -10,6 +10,7 @@ use crate::survey::Survey;
 use letters::Kind;
 use shelf::spread;
 
+// By a match on the kind, and no method of `Contents`: what a survey tells is private to the crate, and that trait is not.
 pub(crate) fn survey(kind: Kind, s: &[u8], w: u16, r: u16) -> Option<Survey>
     ensures { MatchOption result (NoContent kind s.now) (Tells kind s.now w r) }
 {
