@@ -13,11 +13,24 @@ use std::test::Fail;
 use text::place::Place;
 use text::shelves::{BlockShelf, TextShelf};
 
-// A file that is one content, at a width: its bytes, its least and greatest width, the width, and its page there.
-pub(crate) type Case<'a> = (&'a [u8], u16, u16, u16, &'a [u8]);
+// A file that is one content, number 0, as a test writes it.
+#[derive(Clone, Copy)]
+pub(crate) struct FileSeen<'a> {
+    file: &'a [u8],
+    content: ContentSeen<'a>,
+}
 
-pub(crate) fn case<'a>(file: &'a [u8], least: u16, most: u16, w: u16, page: &'a [u8]) -> Case<'a> {
-    (file, least, most, w, page)
+pub(crate) fn case<'a>(
+    file: &'a [u8],
+    least: u16,
+    most: u16,
+    w: u16,
+    page: &'a [u8],
+) -> FileSeen<'a> {
+    FileSeen {
+        file,
+        content: content(0, least, most, w, page),
+    }
 }
 
 // What stands at some places of a file, which a pile of layers is put on.
@@ -56,7 +69,7 @@ pub(crate) fn check_file(
     pile: Pile,
     file: &[u8],
     ends: &[(usize, usize)],
-    contents: &[Content],
+    contents: &[ContentSeen],
 ) -> Result<(), Fail> {
     let mut room = [UNUSED; 8];
     let places = listed(&mut room, ends)?;
@@ -76,7 +89,7 @@ fn check_base<A: Shelf + Copy, B: Shelf + Copy>(
     pile: Pile,
     texts: A,
     blocks: B,
-    contents: &[Content],
+    contents: &[ContentSeen],
 ) -> Result<(), Fail> {
     match base {
         Base::Only(Kind::Text) => check_pile(rt, pile, texts, contents),
@@ -91,7 +104,7 @@ fn check_layered<A: Shelf + Copy, B: Shelf + Copy>(
     pile: Pile,
     texts: A,
     blocks: B,
-    contents: &[Content],
+    contents: &[ContentSeen],
 ) -> Result<(), Fail> {
     check_pile(
         rt,
@@ -106,16 +119,16 @@ pub(crate) fn check_each(
     rt: &impl Abort,
     kind: Kind,
     pile: Pile,
-    cases: &[Case],
+    cases: &[FileSeen],
 ) -> Result<(), Fail> {
-    for (file, least, most, w, page) in cases {
+    for case in cases {
         check_file(
             rt,
             Base::Only(kind),
             pile,
-            file,
-            &[(0, file.len())],
-            &[(0, *least, *most, *w, page)],
+            case.file,
+            &[(0, case.file.len())],
+            &[case.content],
         )?;
     }
     Ok(())

@@ -183,8 +183,8 @@ fn padding_at_2000(rt: HostRuntime) -> Result<(), Fail> {
         Kind::Text,
         Pile::Padding(1),
         &[
-            (&[b'x'; 1998], 2000, 2000, 2000, &page),
-            (&[b'x'; 1999], 2001, 2001, 2000, b""),
+            case(&[b'x'; 1998], 2000, 2000, 2000, &page),
+            case(&[b'x'; 1999], 2001, 2001, 2000, b""),
         ],
     )
 }

@@ -23,7 +23,7 @@ pub(crate) fn check_pile<S: Shelf + Drop>(
     rt: &impl Abort,
     pile: Pile,
     below: S,
-    contents: &[Content],
+    contents: &[ContentSeen],
 ) -> Result<(), Fail> {
     match pile {
         Pile::Bare => check_shelf(rt, &below, contents),

@@ -121,7 +121,7 @@ fn tabs_and_returns(rt: HostRuntime) -> Result<(), Fail> {
 // The table of contents is empty.
 #[test]
 fn no_places(rt: HostRuntime) -> Result<(), Fail> {
-    let contents: [Content; 1] = [content(0, 3, 3, 3, b"abc")];
+    let contents = [content(0, 3, 3, 3, b"abc")];
     check_file(&rt, Base::Joined, Pile::Bare, b"abc", &[], &contents[1..])
 }
 

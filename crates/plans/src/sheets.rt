@@ -11,7 +11,7 @@ pub(crate) const TABLE_ROOM: usize = 66;
 
 pub(crate) const CELL_ROOM: usize = 1030;
 
-// An empty sheet over so many of the places for tables and for cells.
+// An empty sheet over so many of the places for tables and for cells. The two numbers are a tuple, since tests write them by hand.
 pub(crate) fn sheet_over<'t, 'c>(
     tables: &'t mut [Table],
     cells: &'c mut [Cell],
@@ -23,7 +23,7 @@ pub(crate) fn sheet_over<'t, 'c>(
 }
 
 // A sheet with room for so many tables and cells answers the calls so, and then holds these tables and cells. No column is fixed but
-// these.
+// these. Each list is of a type of its own, so that none can be passed in the place of another.
 pub(crate) fn check_run(
     rt: &impl Abort,
     rooms: (usize, usize),

@@ -1,6 +1,8 @@
 // What a sheet should hold, as a test writes it and as a sheet tells it.
 use plan::{Cell, Column, Holds, ROWS, Rect, Sizing, Table};
 
+// TableSeen, CellSeen and Fixed are tuples, since tests write tables of them by hand.
+
 // A table as a test writes it: its columns, its spacing, the rows begun, and the rows begun or reached by a cell.
 pub(crate) type TableSeen = (u8, u8, u8, u8);
 
@@ -11,13 +13,21 @@ pub(crate) type CellSeen = (usize, u8, u8, u8, u8, Holds);
 pub(crate) type Fixed = (usize, usize, u16);
 
 // A table with its columns and the heights of its rows. Its record of taken columns is not for callers to see.
-pub(crate) type TableParts = (TableSeen, [Column; 32], [u16; ROWS]);
+#[derive(Clone, Copy, PartialEq, Debug)]
+pub(crate) struct TableParts {
+    seen: TableSeen,
+    columns: [Column; 32],
+    heights: [u16; ROWS],
+}
 
 pub(crate) fn parts_of(table: Table) -> TableParts {
-    let seen = (table.count, table.spacing, table.begun, table.reached);
     let columns = table.columns;
     let heights = table.heights;
-    (seen, columns, heights)
+    TableParts {
+        seen: (table.count, table.spacing, table.begun, table.reached),
+        columns,
+        heights,
+    }
 }
 
 // Table t of those listed, if there is one. Its columns have no measures and its rows no heights.
@@ -27,7 +37,11 @@ pub(crate) fn expected_table(
     t: usize,
 ) -> Option<TableParts> {
     let seen = tables.get(t)?;
-    Some((*seen, expected_columns(fixed, t), [0; ROWS]))
+    Some(TableParts {
+        seen: *seen,
+        columns: expected_columns(fixed, t),
+        heights: [0; ROWS],
+    })
 }
 
 fn expected_columns(fixed: &[Fixed], table: usize) -> [Column; 32] {
