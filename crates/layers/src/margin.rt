@@ -62,7 +62,7 @@ impl<S: Drop, M: Style> Margined<S, M> {
 }
 
 impl<S: Shelf, M: Style> Margined<S, M> {
-    // The places of both margins that face each other.
+    // The places left and right of a content together, or above and under it.
     fn both(&self) -> u16
         ensures { result ≡ 2 * self.now.size }
     {

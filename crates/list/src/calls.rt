@@ -57,7 +57,8 @@ impl<'a, T: Copy> List<'a, T> {
         self.items().get(i).copied()
     }
 
-    // A loan of an item, as `get_mut`, is not covered by the check past a struct's ghost field: an item is copied out and put back.
+    // No loan of an item, as `get_mut`: the check does not cover one out of a lent slice that stands beside a ghost field. An item is copied
+    // out, changed, and put back.
     /// Puts x in the place of item i; false where there is no such item.
     pub fn set(&mut self, i: usize, x: T) -> bool
         ensures { Put self.old i x self.new result }

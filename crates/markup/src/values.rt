@@ -8,7 +8,7 @@ ghost use Rattle.markup.specs.Views.{as_given, and_rest, left, given_left};
 use crate::record::{Attribute, Name};
 use crate::spans::{Span, number, spelled, split_run};
 
-/// The value of each attribute that was given, in the order of the attributes.
+/// The value of each attribute that was given, in the order of the attributes. An array, as there is no heap.
 pub(crate) type Values = [Option<u32>; 7];
 
 /// An attribute with its value.
@@ -110,6 +110,7 @@ impl Opening {
     {
         let mut values = [None; 7];
         let mut rest = bytes;
+        // By hand, as any step may refuse the whole: an iterator's items would be taken apart by the same two tests and `?`.
         loop {
             let (white, after) = split_run(rest, Span::White);
             if white.len() == rest.len() {

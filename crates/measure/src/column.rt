@@ -49,7 +49,8 @@ pub(crate) fn hold(c: &mut Column)
 }
 
 // One of the two bounds of a column's width.
-// It is told by an enum: a trait of two unit types would take two impls for these three matches, and a type parameter for what is told.
+// An enum, and no closures or trait: one pass reads a bound, asks who shares in it and lets it grow, which would be three closures, or two
+// impls of three functions, for each of the two.
 #[derive(Clone, Copy, PartialEq, Eq, Debug)]
 pub(crate) enum Bound {
     Least,

@@ -9,7 +9,8 @@ use crate::span::lift;
 use crate::sweep::each;
 use plan::{Cell, Column};
 
-// What the cells of a table ask. The asks stand beside the cells, one for each number of a cell: cells stand in memory that the caller lends.
+// What the cells of a table ask. The asks stand beside the cells, one for each number of a cell: there is no heap, and cells stand in memory
+// that the caller lends.
 #[derive(Clone, Copy)]
 pub(crate) struct Asking<'a> {
     pub(crate) table: usize,

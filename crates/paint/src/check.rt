@@ -36,7 +36,8 @@ pub(crate) fn check_on_shelf<S: Shelf>(shelf: &S, i: usize, cell: &Cell) -> Resu
     Ok(())
 }
 
-// The content of cell i, if it has one, can be set at the width of its box.
+// The content of cell i, if it has one, can be set at the width of its box. Like the one above but for the query: another answer, another
+// argument and another fact, for each of which a common function would take a parameter.
 pub(crate) fn check_fits_box<S: Shelf>(shelf: &S, i: usize, cell: &Cell) -> Result<(), Fault>
     ensures { result ≡ unless (unfit (S.Shelf.meaning shelf.now) cell.now.rect.width i cell.now.holds) (Ok tt) }
 {

@@ -33,7 +33,7 @@ pub(crate) fn case<'a>(
     }
 }
 
-// What stands at some places of a file, which a pile of layers is put on.
+// What stands at some places of a file, which a pile of layers is put on. An enum, as each is a shelf of another type.
 #[derive(Clone, Copy)]
 pub(crate) enum Base {
     // one kind of content alone

@@ -1,4 +1,5 @@
-// One layer over texts or blocks. Each test is a table of cases for `check_each`, so that they are alike in all but their tables. A blank that begins a line of a page is written \x20, since a bare one would be skipped.
+// One layer over texts or blocks. Each test is a table of cases for `check_each`, so that they are alike in all but their tables.
+// A blank that begins a line of a page is written \x20, since a bare one would be skipped.
 use crate::files::*;
 use crate::pile::*;
 use letters::Kind;

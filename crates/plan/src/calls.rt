@@ -34,7 +34,8 @@ fn spare_place<T: Copy>(list: &List<T>, limit: usize) -> Result<(), Fault>
     Ok(())
 }
 
-// A table without rows, of 1 to 32 columns and a spacing from 0 to 8.
+// A table without rows, of 1 to 32 columns and a spacing from 0 to 8. The two numbers go one way only, into the table, and so have no struct
+// of their own.
 fn new_table(count: u8, spacing: u8) -> Result<Table, Fault>
     ensures { result ≡ (if table_range count spacing then Ok (blank_table count spacing) else Err (fault OutOfRange 0)) }
 {

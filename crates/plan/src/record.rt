@@ -18,8 +18,8 @@ pub enum Axis {
     Rows,
 }
 
-/// How a column comes to its width: by its contents, or fixed at a width.
-// Not an `Option`: the two words are those of the rules, and a third way of sizing has room here.
+/// How a column comes to its width: by its contents, or fixed at a width. An enum, as these are the words of the rules and of the
+/// definitions, which an `Option` would not say.
 #[derive(Clone, Copy, PartialEq, Eq, Debug)]
 pub enum Sizing {
     Free,
@@ -36,7 +36,8 @@ pub struct Column {
 }
 
 /// A table: its first `count` columns are used. `begun` rows were begun, and `reached` were begun or reached by a cell.
-// The columns stand in an array with their number beside, since there is no heap and a table keeps its own.
+// The columns stand in an array with their number beside, and so do heights and taken columns: there is no heap, and by a rule of the
+// project a table keeps its own.
 #[derive(Clone, Copy, PartialEq, Eq, Debug)]
 pub struct Table {
     pub columns: [Column; COLUMNS],
@@ -79,7 +80,7 @@ pub struct Cell {
 impl From<u16> for Sizing {
     ghost from_gives = { λ width sizing. sizing ≡ sizing_of width };
 
-    /// Fixed at the width, or free at 0.
+    /// Fixed at the width, or free at 0: by the rules the call that fixes a width frees the column with it.
     fn from(width: u16) -> Sizing {
         if width == 0 {
             Sizing::Free

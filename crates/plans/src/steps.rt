@@ -19,7 +19,8 @@ pub(crate) enum Step {
     Width(usize, usize, u16),
 }
 
-// What a call answers. A refusal is told by its number, which is what is printed of it, and names no place unless it is so said.
+// What a call answers. A refusal is told by its number, which is what is printed of it, and names no place unless it is so said. An enum of
+// its own, as tables of cases are written in these words: `Ok(None)` would not say that a call is done.
 #[derive(Clone, Copy, PartialEq, Debug)]
 pub(crate) enum Answer {
     Done,
@@ -43,6 +44,7 @@ impl From<Fault> for Answer {
     }
 }
 
+// Two conversions, as calls answer two types.
 impl From<Result<(), Fault>> for Answer {
     fn from(answer: Result<(), Fault>) -> Answer {
         match answer {

@@ -2,7 +2,8 @@
 use markup::{CellTag, TableTag, Tag, read_tag};
 use std::process::Abort;
 
-// What a tag says, or the number of the reason for which it is refused: a number, as that is what is printed.
+// What a tag says, or the number of the reason for which it is refused. The number and no `Reason`: it is what is printed of a refusal, and
+// tests hold it.
 pub(crate) type Answer = Result<Tag, u8>;
 
 pub(crate) fn table(cols: u32, spacing: u32, width: u32, padding: u32, border: u32) -> Tag {
@@ -15,20 +16,16 @@ pub(crate) fn table(cols: u32, spacing: u32, width: u32, padding: u32, border: u
     })
 }
 
+fn cell(head: bool, across: u32, down: u32) -> Tag {
+    Tag::Cell(CellTag { head, across, down })
+}
+
 pub(crate) fn data(across: u32, down: u32) -> Tag {
-    Tag::Cell(CellTag {
-        head: false,
-        across,
-        down,
-    })
+    cell(false, across, down)
 }
 
 pub(crate) fn head(across: u32, down: u32) -> Tag {
-    Tag::Cell(CellTag {
-        head: true,
-        across,
-        down,
-    })
+    cell(true, across, down)
 }
 
 // Each tag, from after its "<" on, says what stands beside it. `outermost` tells that no table is open.
@@ -46,8 +43,7 @@ pub(crate) fn check_sizes(rt: &impl Abort, cases: &[(&[u8], Option<usize>)]) {
 }
 
 fn read(bytes: &[u8], outermost: bool) -> Answer {
-    match read_tag(bytes, outermost) {
-        Ok((tag, _)) => Ok(tag),
-        Err(reason) => Err(reason.number()),
-    }
+    read_tag(bytes, outermost)
+        .map(|(tag, _)| tag)
+        .map_err(|reason| reason.number())
 }

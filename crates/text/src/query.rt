@@ -10,7 +10,8 @@ use crate::survey::Survey;
 use letters::Kind;
 use shelf::spread;
 
-// By a match on the kind, and no method of `Contents`: what a survey tells is private to the crate, and that trait is not.
+// A match on the kind, here and in `show`, and no method of `Contents`: that trait is public, while a survey is private and `show` has
+// conditions, which no public call has.
 pub(crate) fn survey(kind: Kind, s: &[u8], w: u16, r: u16) -> Option<Survey>
     ensures { MatchOption result (NoContent kind s.now) (Tells kind s.now w r) }
 {
