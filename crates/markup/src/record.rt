@@ -23,7 +23,8 @@ pub enum Attribute {
     Rowspan,
 }
 
-/// What a TABLE tag says. Only that of the outermost table tells a width, padding and a border.
+/// What a TABLE tag says. Only that of the outermost table tells a width, padding and a border; another has their defaults, as the rules
+/// have numbers there.
 #[derive(Clone, Copy, PartialEq, Eq, Debug)]
 pub struct TableTag {
     pub cols: u32,
@@ -33,7 +34,7 @@ pub struct TableTag {
     pub border: u32,
 }
 
-/// What a TD or TH tag says.
+/// What a TD or TH tag says; `head` is told of a TH, which is like a TD in all else.
 #[derive(Clone, Copy, PartialEq, Eq, Debug)]
 pub struct CellTag {
     pub head: bool,

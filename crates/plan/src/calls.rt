@@ -105,7 +105,7 @@ fn find_column(table: &Table, span: Span) -> Result<u8, Fault>
     Ok(j)
 }
 
-// The cell that stands in the table's current row.
+// The cell that stands in the table's current row. Its column and span stay apart up to here, where the cell has them as fields.
 fn stand(t: usize, table: &Table, j: u8, span: Span, holds: Holds) -> Cell
     requires { 0 < table.now.begun }
     ensures { result ≡ new_cell t table.now j span.across span.down holds }

@@ -44,20 +44,11 @@ impl From<Fault> for Answer {
     }
 }
 
-// Two conversions, as calls answer two types.
-impl From<Result<(), Fault>> for Answer {
-    fn from(answer: Result<(), Fault>) -> Answer {
+impl From<Result<Option<usize>, Fault>> for Answer {
+    fn from(answer: Result<Option<usize>, Fault>) -> Answer {
         match answer {
-            Ok(()) => Answer::Done,
-            Err(fault) => Answer::from(fault),
-        }
-    }
-}
-
-impl From<Result<usize, Fault>> for Answer {
-    fn from(answer: Result<usize, Fault>) -> Answer {
-        match answer {
-            Ok(n) => Answer::Number(n),
+            Ok(None) => Answer::Done,
+            Ok(Some(n)) => Answer::Number(n),
             Err(fault) => Answer::from(fault),
         }
     }
@@ -65,16 +56,17 @@ impl From<Result<usize, Fault>> for Answer {
 
 // Carries out the call.
 pub(crate) fn carry_out(sheet: &mut Sheet, step: Step) -> Answer {
-    match step {
-        Step::Start(count, spacing) => sheet.start(count, spacing).into(),
-        Step::Row(t) => sheet.row(t).into(),
-        Step::Rows(t, n) => rows(sheet, t, n).into(),
-        Step::Place(t, content, across, down) => sheet.place(t, content, across, down).into(),
+    let answer = match step {
+        Step::Start(count, spacing) => sheet.start(count, spacing).map(|()| None),
+        Step::Row(t) => sheet.row(t).map(|()| None),
+        Step::Rows(t, n) => rows(sheet, t, n).map(|()| None),
+        Step::Place(t, content, across, down) => sheet.place(t, content, across, down).map(Some),
         Step::Nest(t, across, down, count, spacing) => {
-            sheet.nest(t, across, down, count, spacing).into()
+            sheet.nest(t, across, down, count, spacing).map(Some)
         }
-        Step::Width(t, j, width) => sheet.width(t, j, width).into(),
-    }
+        Step::Width(t, j, width) => sheet.width(t, j, width).map(|()| None),
+    };
+    Answer::from(answer)
 }
 
 // Begins rows up to the first that is refused.

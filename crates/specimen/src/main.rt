@@ -62,9 +62,8 @@ fn show(rt: &HostRuntime, file: &[u8]) -> Result<(), Trouble> {
     let words = count_words(file);
     println!(rt; "read {end} bytes, {words} words")?;
     println!(rt; "{size}")?;
-    let mut row = [b' '; 2000];
-    let wide = size.width as usize;
-    print_lines(rt, &framed, size, &mut row[0..wide])?;
+    let mut row = vec![in rt.alloc(); b' '; size.width as usize].map_err(io::Error::from)?;
+    print_lines(rt, &framed, size, row.as_mut_slice())?;
     Ok(())
 }
 

@@ -7,7 +7,7 @@ ghost use Rattle.typeset.specs.Lines.{lines, shown, first};
 ghost use Rattle.text.specs.Readings.{NoContent, Tells};
 
 use crate::scan::Words;
-use crate::survey::{Survey, begin, measure};
+use crate::survey::{Survey, begin, capped, measure};
 use letters::{Kind, Letters};
 
 /// Reads a text once: where its line r at width w begins, and all that is asked before it is shown.
@@ -38,7 +38,7 @@ pub(crate) fn survey_text(s: &[u8], w: u16, r: u16) -> Option<Survey>
     Some(Survey {
         least: measure(least),
         most: measure(most.saturating_sub(1)),
-        high: high.min(65535) as u16,
+        high: capped(high),
         start,
     })
 }

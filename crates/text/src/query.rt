@@ -21,7 +21,7 @@ pub(crate) fn survey(kind: Kind, s: &[u8], w: u16, r: u16) -> Option<Survey>
     }
 }
 
-// Shows the first line of the content of these bytes.
+// Shows the first line of the content of these bytes. That they fit is asked by each writer of its own lines: of words, and of rows.
 pub(crate) fn show(kind: Kind, s: &[u8], out: &mut [u8])
     requires narrow { length out.old ≤ 2000 }
     requires fits { (content kind s.now).least ≤ length out.old }

@@ -7,7 +7,7 @@ ghost use Rattle.typeset.specs.Lines.{first, blank_filled};
 ghost use Rattle.typeset.specs.Rows.{rows};
 ghost use Rattle.text.specs.Readings.{NoContent, Tells};
 
-use crate::survey::{Survey, begin, measure};
+use crate::survey::{Survey, begin, capped, measure};
 use letters::{Kind, Letters};
 
 /// Reads a block once: where its line r begins, and all that is asked before it is shown.
@@ -35,7 +35,7 @@ pub(crate) fn survey_block(s: &[u8], w: u16, r: u16) -> Option<Survey>
     Some(Survey {
         least: wide,
         most: wide,
-        high: high.min(65535) as u16,
+        high: capped(high),
         start,
     })
 }

@@ -1,5 +1,5 @@
 // What one reading of a content tells.
-ghost use Rattle.std.specs.Prelude.{◌≡◌, ◌||◌, if◌then◌else◌, Ok, Err, nat_eq, nat_lt};
+ghost use Rattle.std.specs.Prelude.{◌≡◌, min, ◌||◌, if◌then◌else◌, Ok, Err, nat_eq, nat_lt};
 ghost use Rattle.fault.specs.Numbers.{fault};
 ghost use Rattle.fault.specs.declared.Reason.TheVariants.{UnfitWidth};
 ghost use Rattle.shelf.specs.Shelves.{widest};
@@ -29,11 +29,18 @@ impl Survey {
     }
 }
 
+// A number, at most the largest that is told.
+pub(crate) fn capped(n: usize) -> u16
+    ensures { result ≡ min n 65535 }
+{
+    u16::try_from(n).unwrap_or(u16::MAX)
+}
+
 // A width, at least 1 and at most the largest number.
 pub(crate) fn measure(n: usize) -> u16
     ensures { result ≡ measured n }
 {
-    n.max(1).min(65535) as u16
+    capped(n.max(1))
 }
 
 // Where line r begins: at the byte at, if it is the next one, and else as told before.

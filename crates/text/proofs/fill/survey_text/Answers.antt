@@ -31,4 +31,4 @@ returns c =
     let i = c.loop-word.invariant in
     let m = scanned c.args.s.now _ _ _ _ _ i.bytes c.in-None.ensures.steps in
     let most : c.measure-2.result ≡ measured (c.loop-word.most - 1) = c.measure-2.ensures ∙ ap measured c.saturating_sub.ensures in
-    counting_all _ _ _ _ _ _ _ _ _ _ _ _ _ c.measure.ensures most c.min-2.ensures m.scan.1 m.scan.2 i.counting
+    counting_all _ _ _ _ _ _ _ _ _ _ _ _ _ c.measure.ensures most c.capped.ensures m.scan.1 m.scan.2 i.counting

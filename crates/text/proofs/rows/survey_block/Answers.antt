@@ -37,4 +37,4 @@ returns c =
     let i = c.loop-letter.invariant in
     let m = moved Block _ _ c.args.s.now _ _ _ _ _ i.kind i.bytes c.in-None.ensures.steps in
     let wide : c.measure-wide.result ≡ measured (max c.loop-letter.width c.loop-letter.least) = c.measure-wide.ensures ∙ ap measured c.max.ensures in
-    tallied_all _ _ _ _ _ _ _ _ _ _ _ wide c.min.ensures m.standing.1 i.tallied
+    tallied_all _ _ _ _ _ _ _ _ _ _ _ wide c.capped.ensures m.standing.1 i.tallied
