@@ -40,7 +40,7 @@ fn value_in(values: &Values, attribute: Attribute) -> Option<u32>
 fn table_tag(values: &Values) -> Option<Tag>
     ensures { result ≡ table_of values.now (value_in values.now Cols) }
 {
-    // COLS alone has no default: by a rule of the project it is looked for first, and a table without it is refused there.
+    // COLS alone has no default: by a rule of the project a tag without it is answered by a `let .. else`.
     let Some(cols) = value_in(values, Attribute::Cols) else {
         return None;
     };

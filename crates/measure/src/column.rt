@@ -49,8 +49,8 @@ pub(crate) fn hold(c: &mut Column)
 }
 
 // One of the two bounds of a column's width.
-// An enum, and no closures or trait: one pass reads a bound, asks who shares in it and lets it grow, which would be three closures, or two
-// impls of three functions, for each of the two.
+// An enum, and no closures or trait: one pass reads a bound, asks who shares in it and lets it grow, which would be three closures for each
+// of the two, or two impls of three functions.
 #[derive(Clone, Copy, PartialEq, Eq, Debug)]
 pub(crate) enum Bound {
     Least,

@@ -54,7 +54,7 @@ impl Asking<'_> {
         }
     }
 
-    // Which spans occur among the cells that ask for some of the n columns.
+    // Which spans occur among the cells that ask for some of the n columns. A mark stands at the number of its span.
     fn mark_spans(&self, n: usize) -> [bool; 33]
         ensures { (s : ℕ) → slice_index_or result s false ≡ false → Absent self.now.table n s self.now.cells.now }
     {

@@ -1,12 +1,13 @@
 // How a test holds what any shelf answers to what it should. Every refusal is met alone and with those that come after it: a number that
 // is not on the shelf, then the width, then the line, then the slice.
-use fault::Fault;
+use fault::{Fault, Reason};
 use shelf::Shelf;
 use std::process::Abort;
 use std::test::Fail;
 
 // A content of a shelf as a test writes it: its number, its least and greatest width, a width, and its page there, which is its lines one
-// after the other with nothing between, or is empty where the content is not set at that width.
+// after the other with nothing between, or is empty where the content is not set at that width. No
+// Option: a page has a line, so one of no bytes is none.
 #[derive(Clone, Copy)]
 pub(crate) struct ContentSeen<'a> {
     k: u16,
@@ -64,9 +65,9 @@ fn check_widths<S: Shelf>(rt: &impl Abort, shelf: &S, content: &ContentSeen) -> 
 
 // Content k is not on the shelf, whatever the width, the line and the slice.
 fn check_absent<S: Shelf>(rt: &impl Abort, shelf: &S, k: u16) -> Result<(), Fail> {
-    check_refused(rt, shelf.widths(k), 9)?;
+    check_refused(rt, shelf.widths(k), Reason::NotOnShelf)?;
     for w in [0, 1, 100, 2000, 2001, 65535] {
-        Setting::new(shelf, k, w).check_no_page(rt, 100, 9)?;
+        Setting::new(shelf, k, w).check_no_page(rt, 100, Reason::NotOnShelf)?;
     }
     Ok(())
 }
@@ -101,16 +102,16 @@ impl<'s, S: Shelf> Setting<'s, S> {
         let wide = self.w as usize;
         let height = self.shelf.height(self.k, self.w)?;
         assert_eq!(rt; height as usize * wide, size);
-        self.check_line_refused(rt, height, wide, 15)?;
-        self.check_line_refused(rt, 65535, 0, 15)
+        self.check_line_refused(rt, height, wide, Reason::PastLastLine)?;
+        self.check_line_refused(rt, 65535, 0, Reason::PastLastLine)
     }
 
     // Line r is the one given, and goes into no slice of another length.
     fn check_line(&self, rt: &impl Abort, r: u16, line: &[u8]) -> Result<(), Fail> {
         self.check_shown(rt, r, line)?;
         let wide = line.len();
-        self.check_line_refused(rt, r, wide.saturating_sub(1), 16)?;
-        self.check_line_refused(rt, r, wide.saturating_add(1), 16)
+        self.check_line_refused(rt, r, wide.saturating_sub(1), Reason::WrongLineLength)?;
+        self.check_line_refused(rt, r, wide.saturating_add(1), Reason::WrongLineLength)
     }
 
     fn check_shown(&self, rt: &impl Abort, r: u16, line: &[u8]) -> Result<(), Fail> {
@@ -125,46 +126,46 @@ impl<'s, S: Shelf> Setting<'s, S> {
 
     // The content is on the shelf, but is not set at that width.
     fn check_unfit(&self, rt: &impl Abort) -> Result<(), Fail> {
-        self.check_no_page(rt, 1, 14)
+        self.check_no_page(rt, 1, Reason::UnfitWidth)
     }
 
-    // Its height is refused with that number, and so are line 0 into a slice of n bytes and line 65535 into one of none.
-    fn check_no_page(&self, rt: &impl Abort, n: usize, number: u8) -> Result<(), Fail> {
-        check_refused(rt, self.shelf.height(self.k, self.w), number)?;
-        self.check_line_refused(rt, 0, n, number)?;
-        self.check_line_refused(rt, 65535, 0, number)
+    // Its height is refused for that reason, and so are line 0 into a slice of n bytes and line 65535 into one of none.
+    fn check_no_page(&self, rt: &impl Abort, n: usize, reason: Reason) -> Result<(), Fail> {
+        check_refused(rt, self.shelf.height(self.k, self.w), reason)?;
+        self.check_line_refused(rt, 0, n, reason)?;
+        self.check_line_refused(rt, 65535, 0, reason)
     }
 
-    // Line r into a slice of n bytes is refused with that number, and the slice is left as it was.
+    // Line r into a slice of n bytes is refused for that reason, and the slice is left as it was.
     fn check_line_refused(
         &self,
         rt: &impl Abort,
         r: u16,
         n: usize,
-        number: u8,
+        reason: Reason,
     ) -> Result<(), Fail> {
         assert!(rt; n <= 2001);
         let mut room = [b'#'; 2001];
         check_refused(
             rt,
             self.shelf.line(self.k, self.w, r, &mut room[0..n]),
-            number,
+            reason,
         )?;
         assert!(rt; room == [b'#'; 2001]);
         Ok(())
     }
 }
 
-// The answer is the refusal of that number, which is what is printed of it, and names no place.
+// The answer is a refusal for that reason, and names no place.
 pub(crate) fn check_refused<T: Drop>(
     rt: &impl Abort,
     answer: Result<T, Fault>,
-    number: u8,
+    reason: Reason,
 ) -> Result<(), Fail> {
     match answer {
         Ok(_) => Err(Fail::new("not refused")),
         Err(fault) => {
-            assert_eq!(rt; (fault.reason.number(), fault.place), (number, 0));
+            assert_eq!(rt; (fault.reason, fault.place), (reason, 0));
             Ok(())
         },
     }

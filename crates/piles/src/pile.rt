@@ -7,8 +7,7 @@ use std::process::Abort;
 use std::test::Fail;
 
 // The layers over a shelf, the outermost named first. A number is the size of the padding, or of the frame where there is no padding; all
-// else has size 1. An enum and no closure: each pile is of another
-// type, and a closure cannot be generic over the shelf below.
+// else has size 1. An enum and no closure: each pile is of another type, and a closure cannot be generic over the shelf below.
 #[derive(Clone, Copy)]
 pub(crate) enum Pile {
     Bare,

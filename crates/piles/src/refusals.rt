@@ -2,6 +2,7 @@
 use crate::files::*;
 use crate::pages::*;
 use crate::pile::*;
+use fault::Reason;
 use layers::frame::Frame;
 use layers::padding::Padding;
 use shelf::Shelf;
@@ -127,8 +128,8 @@ fn no_places(rt: HostRuntime) -> Result<(), Fail> {
 
 fn check_sizes<S: Shelf + Copy>(rt: &impl Abort, below: S) -> Result<(), Fail> {
     for (padding, frame) in [(9, 2), (10, 3), (255, 255)] {
-        check_refused(rt, Padding::new(below, padding), 1)?;
-        check_refused(rt, Frame::new(below, frame), 1)?;
+        check_refused(rt, Padding::new(below, padding), Reason::OutOfRange)?;
+        check_refused(rt, Frame::new(below, frame), Reason::OutOfRange)?;
     }
     Ok(())
 }

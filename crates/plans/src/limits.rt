@@ -5,6 +5,7 @@ use crate::steps::Answer::*;
 use crate::steps::Step::*;
 use crate::steps::*;
 use engine::Sheet;
+use fault::Reason::*;
 use plan::Holds::*;
 use plan::{Cell, Table};
 use std::array;
@@ -17,7 +18,7 @@ fn filling(k: usize, most: usize) -> (Step, Answer) {
         return (Start(32, 0), Done);
     }
     if k == 1090 {
-        return (Nest(0, 1, 1, 1, 0), Refused(7));
+        return (Nest(0, 1, 1, 1, 0), Refused(Full));
     }
     let row = (k - 1) / 33;
     let j = (k - 1) % 33;
@@ -28,7 +29,7 @@ fn filling(k: usize, most: usize) -> (Step, Answer) {
 }
 
 fn placing(i: usize, most: usize) -> (Step, Answer) {
-    let answer = if i < most { Number(i) } else { Refused(7) };
+    let answer = if i < most { Number(i) } else { Refused(Full) };
     (Place(0, (i % 1000) as u16, 1, 1), answer)
 }
 
@@ -98,11 +99,11 @@ fn nesting(k: usize, most: usize) -> (Step, Answer) {
         Nest(t, 1, 1, columns(t + 1), spacing(t + 1))
     };
     let answer = if t >= most {
-        Refused(2)
+        Refused(NotFound)
     } else if k % 2 == 1 {
         Done
     } else if t + 1 == most {
-        Refused(7)
+        Refused(Full)
     } else {
         Number(t + 1)
     };
@@ -156,7 +157,7 @@ fn lining_up(k: usize) -> (Step, Answer) {
         1 | 34 => (Row(0), Done),
         2..=33 => (Nest(0, 1, 1, 1, 0), Number(k - 1)),
         35..=65 => (Nest(0, 1, 1, 1, 0), Number(k - 2)),
-        66 => (Nest(0, 1, 1, 1, 0), Refused(7)),
+        66 => (Nest(0, 1, 1, 1, 0), Refused(Full)),
         _ => (Place(0, 5, 1, 1), Number(63)),
     }
 }

@@ -2,6 +2,7 @@
 use crate::sheets::*;
 use crate::steps::Answer::*;
 use crate::steps::Step::*;
+use fault::Reason::*;
 use plan::Holds::*;
 
 #[test]
@@ -10,18 +11,18 @@ fn no_such_table(rt: HostRuntime) {
         &rt,
         (9, 9),
         &[
-            (Row(0), Refused(2)),
-            (Row(1), Refused(2)),
-            (Row(usize::MAX), Refused(2)),
+            (Row(0), Refused(NotFound)),
+            (Row(1), Refused(NotFound)),
+            (Row(usize::MAX), Refused(NotFound)),
             (Start(2, 0), Done),
-            (Row(1), Refused(2)),
-            (Row(63), Refused(2)),
-            (Row(usize::MAX), Refused(2)),
+            (Row(1), Refused(NotFound)),
+            (Row(63), Refused(NotFound)),
+            (Row(usize::MAX), Refused(NotFound)),
             (Row(0), Done),
-            (Row(1), Refused(2)),
+            (Row(1), Refused(NotFound)),
             (Nest(0, 1, 1, 1, 0), Number(1)),
             (Row(1), Done),
-            (Row(2), Refused(2)),
+            (Row(2), Refused(NotFound)),
         ],
         &[(2, 0, 1, 1), (1, 0, 1, 1)],
         &[(0, 0, 0, 1, 1, Inner(1))],
@@ -34,8 +35,8 @@ fn no_such_table(rt: HostRuntime) {
 fn as_many_as_64(rt: HostRuntime) {
     let mut cases = [(Row(0), Done); 67];
     cases[0] = (Start(5, 1), Done);
-    cases[65] = (Row(0), Refused(6));
-    cases[66] = (Row(0), Refused(6));
+    cases[65] = (Row(0), Refused(PastLastRow));
+    cases[66] = (Row(0), Refused(PastLastRow));
     check_run(&rt, (1, 1), &cases, &[(5, 1, 64, 64)], &[], &[]);
     for n in 0..64 {
         check_run(
@@ -91,8 +92,8 @@ fn all_rows_reached_by_a_cell(rt: HostRuntime) {
             (Row(0), Done),
             (Place(0, 0, 1, 64), Number(0)),
             (Rows(0, 63), Done),
-            (Place(0, 0, 1, 1), Refused(5)),
-            (Row(0), Refused(6)),
+            (Place(0, 0, 1, 1), Refused(NoFreeColumns)),
+            (Row(0), Refused(PastLastRow)),
         ],
         &[(1, 0, 64, 64)],
         &[(0, 0, 0, 1, 64, Content(0))],
@@ -110,12 +111,12 @@ fn rows_of_two_tables(rt: HostRuntime) {
             (Start(1, 0), Done),
             (Rows(0, 64), Done),
             (Nest(0, 1, 1, 3, 2), Number(1)),
-            (Row(0), Refused(6)),
+            (Row(0), Refused(PastLastRow)),
             (Rows(1, 2), Done),
-            (Row(0), Refused(6)),
+            (Row(0), Refused(PastLastRow)),
             (Place(1, 8, 2, 5), Number(1)),
             (Rows(1, 62), Done),
-            (Row(1), Refused(6)),
+            (Row(1), Refused(PastLastRow)),
             (Place(1, 9, 3, 1), Number(2)),
         ],
         &[(1, 0, 64, 64), (3, 2, 64, 64)],

@@ -6,7 +6,7 @@ use plan::{Cell, Table};
 use std::fmt::Debug;
 use std::process::Abort;
 
-// Room for more tables and cells than a sheet can have.
+// Room for more tables and cells than a sheet can have. Arrays, as a sheet's memory is lent; a case says how much of it.
 pub(crate) const TABLE_ROOM: usize = 66;
 
 pub(crate) const CELL_ROOM: usize = 1030;

@@ -1,6 +1,6 @@
 // Calls as values, so that a test is a table of them with their answers.
 use engine::Sheet;
-use fault::Fault;
+use fault::{Fault, Reason};
 
 // A call with what it is passed.
 #[derive(Clone, Copy)]
@@ -19,14 +19,14 @@ pub(crate) enum Step {
     Width(usize, usize, u16),
 }
 
-// What a call answers. A refusal is told by its number, which is what is printed of it, and names no place unless it is so said. An enum of
-// its own, as tables of cases are written in these words: `Ok(None)` would not say that a call is done.
+// What a call answers. A refusal names no place unless it is so said. An enum of its own, as tables of cases are written in these words:
+// `Ok(None)` would not say that a call is done.
 #[derive(Clone, Copy, PartialEq, Debug)]
 pub(crate) enum Answer {
     Done,
     Number(usize),
-    Refused(u8),
-    RefusedAt(u8, usize),
+    Refused(Reason),
+    RefusedAt(Reason, usize),
 }
 
 impl Answer {
@@ -38,8 +38,8 @@ impl Answer {
 impl From<Fault> for Answer {
     fn from(fault: Fault) -> Answer {
         match fault.place {
-            0 => Answer::Refused(fault.reason.number()),
-            place => Answer::RefusedAt(fault.reason.number(), place),
+            0 => Answer::Refused(fault.reason),
+            place => Answer::RefusedAt(fault.reason, place),
         }
     }
 }

@@ -2,6 +2,7 @@
 use crate::sheets::*;
 use crate::steps::Answer::*;
 use crate::steps::Step::*;
+use fault::Reason::*;
 use plan::Holds::*;
 
 #[test]
@@ -11,12 +12,12 @@ fn the_range(rt: HostRuntime) {
         (1, 1),
         &[
             (Start(5, 0), Done),
-            (Width(0, 0, 1001), Refused(1)),
-            (Width(0, 0, 65535), Refused(1)),
+            (Width(0, 0, 1001), Refused(OutOfRange)),
+            (Width(0, 0, 65535), Refused(OutOfRange)),
             (Width(0, 1, 0), Done),
             (Width(0, 2, 1), Done),
             (Width(0, 3, 1000), Done),
-            (Width(0, 3, 1001), Refused(1)),
+            (Width(0, 3, 1001), Refused(OutOfRange)),
             (Width(0, 4, 999), Done),
         ],
         &[(5, 0, 0, 0)],
@@ -31,18 +32,18 @@ fn no_such_table_or_column(rt: HostRuntime) {
         &rt,
         (2, 1),
         &[
-            (Width(0, 0, 5), Refused(2)),
-            (Width(usize::MAX, 0, 5), Refused(2)),
+            (Width(0, 0, 5), Refused(NotFound)),
+            (Width(usize::MAX, 0, 5), Refused(NotFound)),
             (Start(3, 0), Done),
-            (Width(1, 0, 5), Refused(2)),
-            (Width(64, 0, 5), Refused(2)),
-            (Width(usize::MAX, 0, 5), Refused(2)),
-            (Width(0, 3, 5), Refused(2)),
-            (Width(0, 31, 5), Refused(2)),
-            (Width(0, 32, 5), Refused(2)),
-            (Width(0, 255, 5), Refused(2)),
-            (Width(0, usize::MAX, 5), Refused(2)),
-            (Width(0, 3, 0), Refused(2)),
+            (Width(1, 0, 5), Refused(NotFound)),
+            (Width(64, 0, 5), Refused(NotFound)),
+            (Width(usize::MAX, 0, 5), Refused(NotFound)),
+            (Width(0, 3, 5), Refused(NotFound)),
+            (Width(0, 31, 5), Refused(NotFound)),
+            (Width(0, 32, 5), Refused(NotFound)),
+            (Width(0, 255, 5), Refused(NotFound)),
+            (Width(0, usize::MAX, 5), Refused(NotFound)),
+            (Width(0, 3, 0), Refused(NotFound)),
             (Width(0, 2, 5), Done),
         ],
         &[(3, 0, 0, 0)],
@@ -58,7 +59,7 @@ fn the_last_column(rt: HostRuntime) {
         (1, 1),
         &[
             (Start(1, 0), Done),
-            (Width(0, 1, 7), Refused(2)),
+            (Width(0, 1, 7), Refused(NotFound)),
             (Width(0, 0, 8), Done),
         ],
         &[(1, 0, 0, 0)],
@@ -70,7 +71,7 @@ fn the_last_column(rt: HostRuntime) {
         (1, 1),
         &[
             (Start(32, 0), Done),
-            (Width(0, 32, 7), Refused(2)),
+            (Width(0, 32, 7), Refused(NotFound)),
             (Width(0, 31, 8), Done),
             (Width(0, 0, 9), Done),
         ],
@@ -97,7 +98,7 @@ fn fixed_and_freed(rt: HostRuntime) {
             (Width(0, 3, 0), Done),
             (Width(0, 3, 30), Done),
             (Width(0, 0, 10), Done),
-            (Width(0, 0, 1001), Refused(1)),
+            (Width(0, 0, 1001), Refused(OutOfRange)),
             (Width(0, 1, 0), Done),
         ],
         &[(6, 0, 0, 0)],
@@ -132,8 +133,8 @@ fn columns_of_two_tables(rt: HostRuntime) {
             (Row(0), Done),
             (Nest(0, 2, 2, 3, 2), Number(1)),
             (Width(1, 2, 60), Done),
-            (Width(0, 2, 60), Refused(2)),
-            (Width(1, 3, 60), Refused(2)),
+            (Width(0, 2, 60), Refused(NotFound)),
+            (Width(1, 3, 60), Refused(NotFound)),
             (Row(1), Done),
             (Place(1, 5, 3, 1), Number(1)),
             (Width(1, 0, 70), Done),

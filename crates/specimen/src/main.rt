@@ -29,7 +29,7 @@ fn main(rt: HostRuntime) -> io::Result<()> {
     rt.stdin().read_to_end(&mut file)?;
     match show(&rt, file.as_slice()) {
         Ok(()) => Ok(()),
-        // Printed here and by no `Display` of a refusal, whose place is a byte in this program alone.
+        // Printed here: of the two troubles this one alone is printed, and a `Display` of `Trouble` would owe words for the other.
         Err(Trouble::Refused(fault)) => {
             let number = fault.reason.number();
             let at = fault.place;

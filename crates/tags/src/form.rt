@@ -1,5 +1,6 @@
 // What has the form of a tag.
 use crate::reading::{check, check_sizes, data};
+use fault::Reason::*;
 use markup::{Name, Tag};
 
 #[test]
@@ -11,12 +12,12 @@ fn white_space(rt: HostRuntime) {
             (b"/td >", Ok(Tag::End(Name::Data))),
             (b"td\r\n\t >", Ok(data(1, 1))),
             (b"td  colspan=2  rowspan=3 >", Ok(data(2, 3))),
-            (b" td>", Err(19)),
-            (b"/ td>", Err(19)),
-            (b"td colspan=1rowspan=1>", Err(19)),
-            (b"td colspan=\"1\"rowspan=1>", Err(19)),
-            (b"td colspan = 1>", Err(19)),
-            (b"td colspan= 1>", Err(19)),
+            (b" td>", Err(Malformed)),
+            (b"/ td>", Err(Malformed)),
+            (b"td colspan=1rowspan=1>", Err(Malformed)),
+            (b"td colspan=\"1\"rowspan=1>", Err(Malformed)),
+            (b"td colspan = 1>", Err(Malformed)),
+            (b"td colspan= 1>", Err(Malformed)),
         ],
     );
 }
@@ -27,18 +28,18 @@ fn attributes(rt: HostRuntime) {
         &rt,
         false,
         &[
-            (b"td/>", Err(19)),
-            (b"/td colspan=1>", Err(19)),
-            (b"table cols=2 COLS=3>", Err(19)),
-            (b"td colspan>", Err(19)),
-            (b"td colspan=>", Err(19)),
-            (b"td colspan=\"\">", Err(19)),
-            (b"td colspan=\"1>", Err(19)),
-            (b"td colspan='1'>", Err(19)),
-            (b"td colspan=000001>", Err(19)),
-            (b"td colspan=\"000001\">", Err(19)),
-            (b"td colspan=-1>", Err(19)),
-            (b"td span=1>", Err(19)),
+            (b"td/>", Err(Malformed)),
+            (b"/td colspan=1>", Err(Malformed)),
+            (b"table cols=2 COLS=3>", Err(Malformed)),
+            (b"td colspan>", Err(Malformed)),
+            (b"td colspan=>", Err(Malformed)),
+            (b"td colspan=\"\">", Err(Malformed)),
+            (b"td colspan=\"1>", Err(Malformed)),
+            (b"td colspan='1'>", Err(Malformed)),
+            (b"td colspan=000001>", Err(Malformed)),
+            (b"td colspan=\"000001\">", Err(Malformed)),
+            (b"td colspan=-1>", Err(Malformed)),
+            (b"td span=1>", Err(Malformed)),
         ],
     );
 }
@@ -50,14 +51,14 @@ fn ends(rt: HostRuntime) {
         &rt,
         false,
         &[
-            (b"td", Err(19)),
-            (b"td ", Err(19)),
-            (b"", Err(19)),
-            (b"td\x07>", Err(18)),
-            (b"t\x07", Err(18)),
-            (b"a \x80 b>", Err(18)),
+            (b"td", Err(Malformed)),
+            (b"td ", Err(Malformed)),
+            (b"", Err(Malformed)),
+            (b"td\x07>", Err(ByteNotAllowed)),
+            (b"t\x07", Err(ByteNotAllowed)),
+            (b"a \x80 b>", Err(ByteNotAllowed)),
             (b"td>\x07", Ok(data(1, 1))),
-            (b"a<b>", Err(19)),
+            (b"a<b>", Err(Malformed)),
         ],
     );
     check_sizes(

@@ -1,10 +1,10 @@
 // Tags as a test writes them, and what reading them answers.
+use fault::Reason;
 use markup::{CellTag, TableTag, Tag, read_tag};
 use std::process::Abort;
 
-// What a tag says, or the number of the reason for which it is refused. The number and no `Reason`: it is what is printed of a refusal, and
-// tests hold it.
-pub(crate) type Answer = Result<Tag, u8>;
+// What a tag says, or the reason for which it is refused.
+pub(crate) type Answer = Result<Tag, Reason>;
 
 pub(crate) fn table(cols: u32, spacing: u32, width: u32, padding: u32, border: u32) -> Tag {
     Tag::Table(TableTag {
@@ -43,7 +43,5 @@ pub(crate) fn check_sizes(rt: &impl Abort, cases: &[(&[u8], Option<usize>)]) {
 }
 
 fn read(bytes: &[u8], outermost: bool) -> Answer {
-    read_tag(bytes, outermost)
-        .map(|(tag, _)| tag)
-        .map_err(|reason| reason.number())
+    read_tag(bytes, outermost).map(|(tag, _)| tag)
 }

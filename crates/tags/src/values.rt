@@ -1,5 +1,6 @@
 // What tags say, with the defaults of their attributes.
 use crate::reading::{check, data, head, table};
+use fault::Reason::*;
 use markup::{Name, Tag};
 
 #[test]
@@ -21,10 +22,10 @@ fn names(rt: HostRuntime) {
             (b"/pre>", Ok(Tag::End(Name::Block))),
             (b"TD>", Ok(data(1, 1))),
             (b"tH >", Ok(head(1, 1))),
-            (b"tdx>", Err(19)),
-            (b"ta>", Err(19)),
-            (b">", Err(19)),
-            (b"/>", Err(19)),
+            (b"tdx>", Err(Malformed)),
+            (b"ta>", Err(Malformed)),
+            (b">", Err(Malformed)),
+            (b"/>", Err(Malformed)),
         ],
     );
 }
@@ -41,9 +42,9 @@ fn tables(rt: HostRuntime) {
                 b"TABLE BORDER=1 cellpadding=2\nCOLS=\"3\" Cellspacing=0 >",
                 Ok(table(3, 0, 80, 2, 1)),
             ),
-            (b"table>", Err(19)),
-            (b"table width=8>", Err(19)),
-            (b"table cols=2 colspan=1>", Err(19)),
+            (b"table>", Err(Malformed)),
+            (b"table width=8>", Err(Malformed)),
+            (b"table cols=2 colspan=1>", Err(Malformed)),
         ],
     );
     check(
@@ -51,9 +52,9 @@ fn tables(rt: HostRuntime) {
         false,
         &[
             (b"table cols=2 cellspacing=3>", Ok(table(2, 3, 80, 0, 0))),
-            (b"table cols=2 width=8>", Err(19)),
-            (b"table cols=2 cellpadding=0>", Err(19)),
-            (b"table cols=2 border=0>", Err(19)),
+            (b"table cols=2 width=8>", Err(Malformed)),
+            (b"table cols=2 cellpadding=0>", Err(Malformed)),
+            (b"table cols=2 border=0>", Err(Malformed)),
         ],
     );
 }
@@ -67,12 +68,12 @@ fn cells(rt: HostRuntime) {
             (b"TD colspan=\"3\">", Ok(data(3, 1))),
             (b"td rowspan=2 colspan=4>", Ok(data(4, 2))),
             (b"th\trowspan=99999>", Ok(head(1, 99999))),
-            (b"td width=1>", Err(19)),
+            (b"td width=1>", Err(Malformed)),
             (b"col width=00002>", Ok(Tag::Column(2))),
             (b"col width=0>", Ok(Tag::Column(0))),
-            (b"col cols=1>", Err(19)),
-            (b"tr width=1>", Err(19)),
-            (b"pre width=1>", Err(19)),
+            (b"col cols=1>", Err(Malformed)),
+            (b"tr width=1>", Err(Malformed)),
+            (b"pre width=1>", Err(Malformed)),
         ],
     );
 }
