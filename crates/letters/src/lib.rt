@@ -5,7 +5,6 @@ ghost use Rattle.std.specs.Prelude.{◌≡◌, ◌-◌, ◌≤◌, min, not, len
 ghost use Rattle.std.specs.Iterator.{at_most};
 ghost use Rattle.classes.specs.Classes.{white};
 ghost use Rattle.letters.specs.Letters.{begins, plain, allowed, letter_of, letter_at, Stepped};
-ghost use Rattle.letters.specs.References.{reference_of};
 ghost use Rattle.letters.specs.Walks.{Moves};
 ghost use Rattle.letters.specs.Verdicts.{ends_badly, reason_of, verdict, Judged};
 
@@ -60,35 +59,32 @@ fn is_plain(kind: Kind, b: u8) -> bool
     is_allowed(kind, b) && b != b'<' && b != b'&'
 }
 
-// The references, and the character that each stands for.
-const REFERENCES: [(&[u8], u8); 4] = [
-    (b"&lt;", b'<'),
-    (b"&gt;", b'>'),
-    (b"&amp;", b'&'),
-    (b"&quot;", b'"'),
-];
-
 fn starts(rest: &[u8], what: &[u8]) -> bool
     ensures { result ≡ begins what.now rest.now }
 {
     rest.starts_with(what)
 }
 
-// The reference that the bytes begin with, and the character that it stands for.
-fn first_reference(rest: &[u8]) -> Option<&'static (&'static [u8], u8)>
-    ensures { MatchOption result (reference_of rest.now ≡ None) (λ p. reference_of rest.now ≡ Some (p.now.0.now, p.now.1)) }
-{
-    REFERENCES
-        .iter()
-        .find(|(spelling, _)| starts(rest, spelling))
-}
-
-// The character that the bytes begin with, and how many bytes more than one it takes.
+// The character that the bytes begin with, and how many bytes more than one it takes. Every reference begins with `&`, so that other bytes
+// are compared with none of them. Each is compared by itself: a search in a table of them takes longer where there are many. Every character of
+// a content comes by here. Inlined, as are `next_letter` and `next`, so that a loop over the characters of one kind does not ask for it at each.
+#[inline]
 fn first_letter(kind: Kind, rest: &[u8]) -> (u8, usize)
     ensures { result ≡ letter_of kind rest.now }
 {
-    if let Some((spelling, glyph)) = first_reference(rest) {
-        return (*glyph, spelling.len() - 1);
+    if let [b'&', ..] = rest {
+        if starts(rest, b"&lt;") {
+            return (b'<', 3);
+        }
+        if starts(rest, b"&gt;") {
+            return (b'>', 3);
+        }
+        if starts(rest, b"&amp;") {
+            return (b'&', 4);
+        }
+        if starts(rest, b"&quot;") {
+            return (b'"', 5);
+        }
     }
     match rest {
         [b, ..] if is_plain(kind, *b) => (*b, 0),
@@ -97,6 +93,7 @@ fn first_letter(kind: Kind, rest: &[u8]) -> (u8, usize)
 }
 
 /// The character at a byte, or none past the last byte.
+#[inline]
 pub fn next_letter(kind: Kind, s: &[u8], at: usize) -> Option<Letter>
     ensures value { result ≡ letter_at kind s.now at }
     ensures steps { MatchOption result (length s.now ≤ at) (λ l. Stepped kind s.now at l.glyph l.next) }
@@ -142,6 +139,7 @@ impl<'f> Iterator for Letters<'f> {
 
     ghost remaining = { λ s. at_most (length s.bytes.now - s.at) };
 
+    #[inline]
     fn next(&mut self) -> Option<(usize, Letter)> {
         let at = self.at;
         let letter = next_letter(self.kind, self.bytes, at)?;

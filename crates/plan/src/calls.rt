@@ -34,27 +34,27 @@ fn spare_place<T: Copy>(list: &List<T>, limit: usize) -> Result<(), Fault>
     Ok(())
 }
 
-// A table without rows, of 1 to 32 columns and a spacing from 0 to 8. The two numbers go one way only, into the table, and so have no struct
-// of their own.
-fn new_table(count: u8, spacing: u8) -> Result<Table, Fault>
-    ensures { result ≡ (if table_range count spacing then Ok (blank_table count spacing) else Err (fault OutOfRange 0)) }
+// Declines a table of other than 1 to 32 columns or of a spacing past 8. The two numbers go one way only, into the table, and so have no struct
+// of their own. The table is made only where nothing else declines, since it is large.
+fn check_table(count: u8, spacing: u8) -> Result<(), Fault>
+    ensures { result ≡ (if table_range count spacing then Ok tt else Err (fault OutOfRange 0)) }
 {
     if count < 1 || count as usize > COLUMNS || spacing > MOST_SPACING {
         return Err(Fault::new(Reason::OutOfRange));
     }
-    Ok(Table::new(count, spacing))
+    Ok(())
 }
 
 /// Makes table 0 of an empty sheet, with 1 to 32 columns and a spacing from 0 to 8.
 pub fn start_table(tables: &mut List<Table>, count: u8, spacing: u8) -> Result<(), Fault>
     ensures { Changed (start_tables (held tables.old) count spacing) tables.old tables.new result }
 {
-    let table = new_table(count, spacing)?;
+    check_table(count, spacing)?;
     if !tables.is_empty() {
         return Err(Fault::new(Reason::AlreadyStarted));
     }
     spare_place(tables, MOST_TABLES)?;
-    tables.push(table)?;
+    tables.push(Table::new(count, spacing))?;
     Ok(())
 }
 
@@ -62,7 +62,9 @@ pub fn start_table(tables: &mut List<Table>, count: u8, spacing: u8) -> Result<(
 pub fn begin_row(tables: &mut List<Table>, t: usize) -> Result<(), Fault>
     ensures { Changed (row_tables (held tables.old) t) tables.old tables.new result }
 {
-    let mut table = tables.get(t).ok_or(Fault::new(Reason::NotFound))?;
+    let Some(mut table) = tables.get(t) else {
+        return Err(Fault::new(Reason::NotFound));
+    };
     if table.begun as usize >= ROWS {
         return Err(Fault::new(Reason::PastLastRow));
     }
@@ -79,7 +81,9 @@ pub fn fix_width(tables: &mut List<Table>, t: usize, j: usize, width: u16) -> Re
     if width > MOST_WIDTH {
         return Err(Fault::new(Reason::OutOfRange));
     }
-    let mut table = tables.get(t).ok_or(Fault::new(Reason::NotFound))?;
+    let Some(mut table) = tables.get(t) else {
+        return Err(Fault::new(Reason::NotFound));
+    };
     if j >= COLUMNS || j >= table.count as usize {
         return Err(Fault::new(Reason::NotFound));
     }
@@ -145,7 +149,9 @@ pub fn place_content(
     ensures { Placed (place_lists by_record (held tables.old) (held cells.old) t across down content) tables.old tables.new cells.old cells.new result }
 {
     let span = Span::new(across, down)?;
-    let mut table = tables.get(t).ok_or(Fault::new(Reason::NotFound))?;
+    let Some(mut table) = tables.get(t) else {
+        return Err(Fault::new(Reason::NotFound));
+    };
     let j = find_column(&table, span)?;
     spare_place(cells, MOST_CELLS)?;
     let i = cells.push(stand(t, &table, j, span, Holds::Content(content)))?;
@@ -167,8 +173,10 @@ pub fn nest_table(
     ensures { Placed (nest_lists by_record (held tables.old) (held cells.old) t across down count spacing) tables.old tables.new cells.old cells.new result }
 {
     let span = Span::new(across, down)?;
-    let new = new_table(count, spacing)?;
-    let mut table = tables.get(t).ok_or(Fault::new(Reason::NotFound))?;
+    check_table(count, spacing)?;
+    let Some(mut table) = tables.get(t) else {
+        return Err(Fault::new(Reason::NotFound));
+    };
     let j = find_column(&table, span)?;
     spare_place(cells, MOST_CELLS)?;
     spare_place(tables, MOST_TABLES)?;
@@ -177,6 +185,6 @@ pub fn nest_table(
     take_columns(&mut table, j, span);
     let _ = tables.set(t, table);
     cells.push(cell)?;
-    tables.push(new)?;
+    tables.push(Table::new(count, spacing))?;
     Ok(inner)
 }
