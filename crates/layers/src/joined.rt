@@ -27,6 +27,8 @@ impl<A, B> Joined<A, B> {
 impl<A: Shelf, B: Shelf> Shelf for Joined<A, B> {
     ghost meaning = { λ s. joined (A.Shelf.meaning s.first) (B.Shelf.meaning s.second) };
 
+    ghost lawful = { λ s. joined_lawful (A.Shelf.meaning s.first) (B.Shelf.meaning s.second) (A.Shelf.lawful s.first) (B.Shelf.lawful s.second) };
+
     fn widths(&self, k: u16) -> Result<(u16, u16), Fault> {
         if k % 2 == 0 {
             self.first.widths(k / 2)
@@ -50,6 +52,4 @@ impl<A: Shelf, B: Shelf> Shelf for Joined<A, B> {
             self.second.line(k / 2, w, r, out)
         }
     }
-
-    ghost lawful = { λ s. joined_lawful (A.Shelf.meaning s.first) (B.Shelf.meaning s.second) (A.Shelf.lawful s.first) (B.Shelf.lawful s.second) };
 }

@@ -84,6 +84,8 @@ impl<S: Shelf, M: Style> Margined<S, M> {
 impl<S: Shelf, M: Style> Shelf for Margined<S, M> {
     ghost meaning = { λ s. M.around s.size (S.Shelf.meaning s.below) };
 
+    ghost lawful = { λ s. M.keeps_lawful s.size (S.Shelf.meaning s.below) (S.Shelf.lawful s.below) };
+
     fn widths(&self, k: u16) -> Result<(u16, u16), Fault> {
         let (least, most) = self.below.widths(k)?;
         let both = self.both();
@@ -115,6 +117,4 @@ impl<S: Shelf, M: Style> Shelf for Margined<S, M> {
         self.below
             .line(k, w - self.both(), r - n, &mut out[from..to])
     }
-
-    ghost lawful = { λ s. M.keeps_lawful s.size (S.Shelf.meaning s.below) (S.Shelf.lawful s.below) };
 }

@@ -15,6 +15,9 @@ pub trait Shelf {
     // what the shelf has and shows
     ghost meaning: { Self → Meaning };
 
+    // owed by every implementation; data and no law, so that other data and clauses may cite it
+    ghost lawful: { (s : Self) → Lawful (meaning s) };
+
     /// The minimum and the maximum width of content k.
     fn widths(&self, k: u16) -> Result<(u16, u16), Fault>
         ensures { result ≡ widths_answer (meaning self.now) k };
@@ -27,9 +30,6 @@ pub trait Shelf {
     fn line(&self, k: u16, w: u16, r: u16, out: &mut [u8]) -> Result<(), Fault>
         ensures answer { result ≡ line_answer (meaning self.now) k w r (length out.old) }
         ensures after { out.new ≡ written (meaning self.now) k w r result out.old };
-
-    // owed by every implementation
-    ghost lawful: { (s : Self) → Lawful (meaning s) };
 }
 
 /// Writes v at each place.

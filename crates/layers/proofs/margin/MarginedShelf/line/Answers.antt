@@ -29,4 +29,4 @@ returns-clause-answer g c =
 pub returns-clause-after : goal.returns-clause-after
 returns-clause-after g c =
     let shown : c.line.result ≡ Ok tt = c.line.ensures.answer ∙ taken c.args.self.now.size (g.S.Shelf.meaning c.args.self.now.below) c.args.k c.args.w _ _ c.in_ok-h.h _ c.in_ok-h.ensures (search rules) (omega arith) (search (rules, places)) in
-    search (rules, middle_line, shown)
+    rw (shown, g.M.Style.shows c.args.self.now.size (g.S.Shelf.meaning c.args.self.now.below)) (search (rules, middle_line))
