@@ -62,8 +62,9 @@ fn show(rt: &HostRuntime, file: &[u8]) -> Result<(), Trouble> {
     let words = count_words(file);
     println!(rt; "read {end} bytes, {words} words")?;
     println!(rt; "{size}")?;
-    let mut row = vec![in rt.alloc(); b' '; size.width as usize].map_err(io::Error::from)?;
-    print_lines(rt, &framed, size, row.as_mut_slice())?;
+    // An array, as wide as any content is set: memory that is asked for here might not be had, with half of the answer printed.
+    let mut row = [b' '; 2000];
+    print_lines(rt, &framed, size, &mut row[..size.width as usize])?;
     Ok(())
 }
 
