@@ -6,6 +6,8 @@ mod limits;
 #[cfg(test)]
 mod nests;
 #[cfg(test)]
+mod numbers;
+#[cfg(test)]
 mod orders;
 #[cfg(test)]
 mod places;
