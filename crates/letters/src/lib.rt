@@ -1,7 +1,7 @@
 // The characters that the bytes of a content stand for.
 #![tactic(auto)]
 
-ghost use Rattle.std.specs.Prelude.{◌≡◌, ◌-◌, ◌≤◌, min, not, length, Some, None, ◌==◌, MatchOption};
+ghost use Rattle.std.specs.Prelude.{◌≡◌, ◌-◌, ◌≤◌, min, not, length, ◌==◌, MatchOption};
 ghost use Rattle.std.specs.Iterator.{at_most};
 ghost use Rattle.classes.specs.Classes.{white};
 ghost use Rattle.letters.specs.Letters.{begins, plain, allowed, letter_of, letter_at, Stepped};
@@ -67,7 +67,7 @@ fn starts(rest: &[u8], what: &[u8]) -> bool
 
 // The character that the bytes begin with, and how many bytes more than one it takes. Every reference begins with `&`, so that other bytes
 // are compared with none of them. Each is compared by itself: a search in a table of them takes longer where there are many. Every character of
-// a content comes by here. Inlined, as are `next_letter` and `next`, so that a loop over the characters of one kind does not ask for it at each.
+// a content comes by here. Inlined, as are `next_letter` and `next`, so that a loop over the characters of one kind asks for the kind once.
 #[inline]
 fn first_letter(kind: Kind, rest: &[u8]) -> (u8, usize)
     ensures { result ≡ letter_of kind rest.now }

@@ -1,4 +1,4 @@
-// Tests alone: sheets are built call by call, and every answer and all that a sheet then holds is held to what the rules give.
+// Tests alone: sheets are built call by call, and every answer and all that a sheet then holds is held to what the rules give, and every refusal to its number.
 #![tactic(auto)]
 
 #[cfg(test)]
